@@ -1,0 +1,25 @@
+// The two failures that nobody can foresee.
+use std::alloc::{AllocError, AllocFailed};
+use thiserror::Error;
+
+/// A device failed.
+#[derive(Clone, Copy, Debug, PartialEq, Eq, Error)]
+#[error("the device failed")]
+pub struct Failed;
+
+/// No memory was found.
+#[derive(Clone, Copy, Debug, PartialEq, Eq, Error)]
+#[error("no memory was found")]
+pub struct Memory;
+
+impl From<AllocError> for Memory {
+    fn from(_error: AllocError) -> Memory {
+        Memory
+    }
+}
+
+impl<T: Drop> From<AllocFailed<T>> for Memory {
+    fn from(_error: AllocFailed<T>) -> Memory {
+        Memory
+    }
+}
