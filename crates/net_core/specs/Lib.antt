@@ -1,0 +1,4 @@
+pub mod Rows
+pub mod Circuits
+pub mod Building
+pub mod Runs

@@ -1,0 +1,6 @@
+pub mod Tokens
+pub mod TokenPieces
+pub mod Lines
+pub mod ThinLines
+pub mod ThinHeads
+pub mod ThinTraces

@@ -1,0 +1,68 @@
+-- Thin traces: the header with the ports in declared order, then a line for each entry.
+use Rattle.std.specs.Prelude.{◌≡◌, ℕ, zero, suc, ◌+◌, ◌/◌, ◌%◌, ◌^◌, ◌<◌, ◌≤◌, List, [], ◌∷◌, ◌++◌, length, codes, Bool, true, false, Option, Some, None}
+use Rattle.std.specs.Borrow.{Bor}
+use Rattle.pbs_base.specs.declared.entry.Entry.{Entry}
+use Rattle.pbs_base.specs.declared.entry.Entry.TheVariants.{Vector, Reset}
+use Rattle.pbs_cli.specs.Lines.{Each}
+
+-- one space and the port of an input
+abbrev pub port_text : List ℕ → List ℕ
+port_text name = codes " i_" ++ name
+
+abbrev pub ports_text : List (List ℕ) → List ℕ
+ports_text [] = []
+ports_text (name ∷ names) = port_text name ++ ports_text names
+
+abbrev pub header : List (List ℕ) → List ℕ
+header inputs = codes "trace" ++ (ports_text inputs ++ codes "\n")
+
+-- one digit for each of n inputs, that of input 0 first
+abbrev pub digits : ℕ → ℕ → List ℕ
+digits zero x = []
+digits (suc n) x = (48 + x % 2) ∷ digits n (x / 2)
+
+abbrev pub row_text : ℕ → Entry → List ℕ
+row_text n (Vector x) = digits n x ++ codes "\n"
+row_text n Reset = codes "r\n"
+
+abbrev pub rows_text : ℕ → List Entry → List ℕ
+rows_text n [] = []
+rows_text n (entry ∷ entries) = row_text n entry ++ rows_text n entries
+
+-- a vector has no bits but those of the inputs
+abbrev pub EntryFits : ℕ → Entry → Type 0
+EntryFits n (Vector x) = x < 2 ^ n
+EntryFits n Reset = Unit {0}
+
+-- the trace of these entries
+pub record IsThinTrace (inputs : List (List ℕ)) (bytes : List ℕ) (entries : List Entry) : Type 0 where
+  pub short : length bytes ≤ 67108864
+  pub is : bytes ≡ header inputs ++ rows_text (length inputs) entries
+  pub fit : Each (EntryFits (length inputs)) entries
+
+-- ---- what reading a part gives
+
+abbrev pub GivesBehind : List ℕ → List ℕ → Option (Bor (List ℕ)) → Type 0
+GivesBehind front bytes (Some rest) = bytes ≡ front ++ rest.now
+GivesBehind front bytes None = (rest : List ℕ) → bytes ≡ front ++ rest → ⊥
+
+abbrev pub GivesDigits : List ℕ → Option ℕ → Type 0
+GivesDigits bytes (Some x) = (digits (length bytes) x ≡ bytes) × (x < 2 ^ length bytes)
+GivesDigits bytes None = (x : ℕ) → digits (length bytes) x ≡ bytes → ⊥
+
+pub record BeginsRow (n : ℕ) (bytes : List ℕ) (entry : Entry) (rest : List ℕ) : Type 0 where
+  pub is : bytes ≡ row_text n entry ++ rest
+  pub fits : EntryFits n entry
+
+abbrev pub GivesRow : ℕ → List ℕ → Option (Entry × Bor (List ℕ)) → Type 0
+GivesRow n bytes (Some found) = BeginsRow n bytes found.0 found.1.now
+GivesRow n bytes None = (entry : Entry) (rest : List ℕ) → BeginsRow n bytes entry rest → ⊥
+
+-- these are the lines of the entries
+pub record AreRows (n : ℕ) (bytes : List ℕ) (entries : List Entry) : Type 0 where
+  pub is : bytes ≡ rows_text n entries
+  pub fit : Each (EntryFits n) entries
+
+abbrev pub GivesRows : ℕ → List ℕ → Bool → Type 0
+GivesRows n bytes true = (entries : List Entry) × AreRows n bytes entries
+GivesRows n bytes false = (entries : List Entry) → AreRows n bytes entries → ⊥

@@ -1,0 +1,11 @@
+pub mod Positions
+pub mod Repeats
+pub mod Shapes
+pub mod Stretches
+pub mod EmptyStretch
+pub mod Reached
+pub mod Prefix
+pub mod Places
+pub mod LastPlaces
+pub mod Grids
+pub mod Steps
