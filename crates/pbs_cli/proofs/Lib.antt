@@ -4,3 +4,6 @@ pub mod NameLists
 pub mod StepLists
 pub mod HeadLemmas
 pub mod TraceLemmas
+pub mod EvaluateLemmas
+pub mod PortLemmas
+pub mod ReportLemmas

@@ -4,3 +4,5 @@ pub mod Lines
 pub mod ThinLines
 pub mod ThinHeads
 pub mod ThinTraces
+pub mod Evaluates
+pub mod Ports

@@ -66,3 +66,12 @@ pub record AreRows (n : ℕ) (bytes : List ℕ) (entries : List Entry) : Type 0 
 abbrev pub GivesRows : ℕ → List ℕ → Bool → Type 0
 GivesRows n bytes true = (entries : List Entry) × AreRows n bytes entries
 GivesRows n bytes false = (entries : List Entry) → AreRows n bytes entries → ⊥
+
+-- they are the lines of some entries
+pub record HasRows (inputs : List (List ℕ)) (bytes : List ℕ) : Type 0 where
+  pub entries : List Entry
+  pub rows : AreRows (length inputs) bytes entries
+
+-- this holds of the entries whose lines they are
+abbrev pub WhereRows : List (List ℕ) → List ℕ → (List Entry → Type 0) → Type 0
+WhereRows inputs bytes P = (entries : List Entry) → AreRows (length inputs) bytes entries → P entries

@@ -2,7 +2,10 @@
 #![tactic(auto)]
 
 mod entries;
+mod evaluate;
 mod line;
+mod ports;
+mod report;
 mod thin;
 mod tokens;
 

@@ -1,8 +1,9 @@
 -- Texts that are written by way of bytes that are held.
-use Rattle.std.proofs.Common.{◌≡◌, ◌≤◌, ℕ, List, [], ◌++◌, Result, Ok, Err, refl, sym, ap, subst, ◌∙◌, append_assoc, append-nil, arith}
+use Rattle.std.proofs.Common.{◌≡◌, ◌≤◌, ℕ, List, [], ◌++◌, Result, Ok, Err, refl, sym, ap, subst, ◌∙◌, append_assoc, append-nil, arith, codes, decimal}
 use Rattle.std.specs.Io.KnownBytes.{append_known}
 use Rattle.pbs_base.specs.Outside.{SinkState, Writes, WritesFront}
 use Rattle.pbs_base.proofs.WrittenLemmas.{append_known-nil, append_known-twice}
+use Rattle.trace_text.specs.Reports.{End, last_line}
 use Rattle.trace_text.specs.Held.{PassesOn, Holds}
 
 -- all that was held was written, and then the piece
@@ -164,3 +165,28 @@ last_held a b c text piece held held_now held_then (Ok x) so_far more =
     text_held a c text [] held held_then x (piece_held a b c (held ++ text) piece [] held_now held_then x (subst (λ l. HeldUpTo a b (held ++ text) l held_now) (sym (append-nil piece)) so_far) more) refl
 last_held a b c text piece held held_now held_then (Err e) so_far more =
     text_unheld a b c text piece [] held held_now held_then e e (subst (λ l. HeldUpTo a b (held ++ text) l held_now) (sym (append-nil piece)) so_far) more
+
+-- a text in two parts, the first of which is given as it was written
+pub two_parts : {T U E : Type 0} (a b c : SinkState) (first written second held held_now held_then : List ℕ) (x : U) (result : Result T E) → written ≡ first → Holds {E = E} a b held held_now written (Ok x) → Holds b c held_now held_then second result
+    → Holds a c held held_then (first ++ second) result
+two_parts a b c first written second held held_now held_then x result is one two =
+    subst (λ l. Holds a c held held_then (l ++ second) result) is
+    (last_held a b c (written ++ second) second held held_now held_then result (piece_held a a b (held ++ (written ++ second)) written second held held_now x (held_before a (written ++ second) held) one) two)
+
+pub first_part_cut : {T U E F : Type 0} (a b : SinkState) (first written second held held_now : List ℕ) (e : E) (f : F) → written ≡ first → Holds {T = T} a b held held_now written (Err e) → Holds {T = U} a b held held_now (first ++ second) (Err f)
+first_part_cut {T} {U} a b first written second held held_now e f is one =
+    subst (λ l. Holds {T = U} a b held held_now (l ++ second) (Err f)) is (text_unheld a a b (written ++ second) written second held held held_now e f (held_before a (written ++ second) held) one)
+
+-- ---- the last line
+
+last_text : (count : ℕ) → (codes "end " ++ decimal count) ++ codes "\n" ≡ last_line count End
+last_text count = append_assoc (codes "end ") (decimal count) (codes "\n")
+
+pub end_held : {T U E : Type 0} (a b c : SinkState) (count : ℕ) (digits held held_now held_then : List ℕ) (x : U) (result : Result T E) → digits ≡ decimal count → Holds {E = E} a b held held_now (codes "end " ++ digits) (Ok x)
+    → Holds b c held_now held_then (codes "\n") result → Holds a c held held_then (last_line count End) result
+end_held a b c count digits held held_now held_then x result is one two =
+    subst (λ l. Holds a c held held_then l result) (last_text count) (two_parts a b c (codes "end " ++ decimal count) (codes "end " ++ digits) (codes "\n") held held_now held_then x result (ap (λ d. codes "end " ++ d) is) one two)
+
+pub end_cut : {T U E F : Type 0} (a b : SinkState) (count : ℕ) (digits held held_now : List ℕ) (e : E) (f : F) → digits ≡ decimal count → Holds {T = T} a b held held_now (codes "end " ++ digits) (Err e) → Holds {T = U} a b held held_now (last_line count End) (Err f)
+end_cut {T} {U} a b count digits held held_now e f is one =
+    subst (λ l. Holds {T = U} a b held held_now l (Err f)) (last_text count) (first_part_cut a b (codes "end " ++ decimal count) (codes "end " ++ digits) (codes "\n") held held_now e f (ap (λ d. codes "end " ++ d) is) one)

@@ -1,5 +1,5 @@
 -- A report line that is written name by name.
-use Rattle.std.proofs.Common.{◌≡◌, ◌≤◌, ◌<◌, ◌+◌, ℕ, Bool, true, false, cond, List, [], ◌∷◌, ◌++◌, length, drop, Some, suc, Result, Ok, Err, codes, decimal, refl, sym, ap, subst, ◌∙◌, append_assoc, add-one, drop-cons}
+use Rattle.std.proofs.Common.{◌≡◌, ◌≤◌, ◌<◌, ◌+◌, ℕ, Bool, true, false, cond, List, [], ◌∷◌, ◌++◌, length, drop, Some, suc, Result, Ok, Err, codes, decimal, refl, sym, ap, subst, ◌∙◌, append_assoc, add-one, drop-cons, arith}
 use Rattle.std.specs.Prelude.{slice_get}
 use Rattle.std.proofs.lemmas.List.{drop_all}
 use Rattle.std.proofs.lemmas.Option.{slice_get_within, get_or_from_slice_get}
@@ -75,3 +75,14 @@ pub line_ended : {T E : Type 0} (a b c : SinkState) (names : List (List ℕ)) (r
     → length names ≤ n → cond any (codes "\n") (codes " -\n") ≡ last → Holds b c held_now held_then last result → Holds a c held held_then (row_line names row on) result
 line_ended a b c names row on any n last held held_now held_then result line past is put =
     last_held a b c (row_line names row on) last held held_now held_then result (subst (λ l. HeldUpTo a b (held ++ row_line names row on) l held_now) (row_ended any on names n past ∙ is) line.so_far) put
+
+names_on-same : (names : List (List ℕ)) (on off : ℕ → Bool) (n : ℕ) → ((a : ℕ) → n ≤ a → a < n + length names → on a ≡ off a) → names_on on names n ≡ names_on off names n
+names_on-same [] on off n same = refl
+names_on-same (name ∷ names) on off n same =
+    let here : on n ≡ off n = same n (omega arith) (omega arith) in
+    let rest : names_on on names (n + 1) ≡ names_on off names (n + 1) = names_on-same names on off (n + 1) (λ a low high. same a (omega arith) (omega arith)) in
+    rw (here, rest) refl
+
+-- the same outputs make the same line
+pub row_line-same : (names : List (List ℕ)) (row : ℕ) (on off : ℕ → Bool) → ((a : ℕ) → a < length names → on a ≡ off a) → row_line names row on ≡ row_line names row off
+row_line-same names row on off same = ap (λ l. decimal row ++ (or_dash l ++ codes "\n")) (names_on-same names on off 0 (λ a low high. same a (omega arith)))

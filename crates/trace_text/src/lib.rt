@@ -5,4 +5,4 @@ mod held;
 mod row;
 
 pub use held::Held;
-pub use row::hold_row;
+pub use row::{hold_end, hold_row};
