@@ -1,25 +1,25 @@
 -- Running a line step by step.
-use Rattle.std.proofs.Common.{◌≡◌, ◌<◌, ◌≤◌, ◌+◌, ◌*◌, ◌%◌, ◌^◌, ℕ, zero, suc, Bool, true, false, ◌&&◌, ◌||◌, nat_eq, nat_lt, bit_or, w64, List, [], ◌∷◌, ◌++◌, length, drop, Option, Some, None, refl, sym, ap, subst, ◌∙◌, append_assoc, append-nil, length-append, add-one, drop-cons, arith, max, inl, inr, IsTrue, slice_index, Bor, Fits}
+use Rattle.std.proofs.Common.{◌≡◌, ◌<◌, ◌≤◌, ◌+◌, ◌*◌, ◌%◌, ◌^◌, ℕ, zero, suc, Bool, true, false, ◌&&◌, ◌||◌, nat_eq, nat_lt, bit_or, w64, List, [], ◌∷◌, ◌++◌, length, drop, Option, Some, None, refl, sym, ap, subst, ◌∙◌, append_assoc, length-append, add-one, drop-cons, arith, max, inl, inr, IsTrue, slice_index, Bor, Fits}
 use Rattle.std.specs.Prelude.{slice_get}
 use Rattle.std.specs.Int.{bit_at}
 use Rattle.std.proofs.lemmas.Nat.Bits.{bit_at_or, bit_at-lt, bit_at-zero, bit_at_set_same, bit_at_set_other}
 use Rattle.std.proofs.lemmas.Bool.Decides.{nat_tests}
 use Rattle.std.proofs.lemmas.Grind.{common_steps}
 use Rattle.std.proofs.lemmas.Bool.{cases_eq}
-use Rattle.std.proofs.lemmas.Option.{slice_get_within, get_or_from_slice_get, slice_get_past}
+use Rattle.std.proofs.lemmas.Option.{slice_get_within, get_or_from_slice_get}
 use Rattle.std.proofs.lemmas.List.{drop_all}
-use Rattle.bool_terms.specs.Terms.{Term, Const, Input, Not, And, Or, term_of, term_inputs_below, holds}
+use Rattle.bool_terms.specs.Terms.{Term, Const, Input, Not, And, Or, term_inputs_below, holds}
 use Rattle.trace_text.specs.Reports.{is_on}
 use Rattle.std.specs.Option.{option_copied}
 use Rattle.std.specs.Prelude.{option_map}
 use Rattle.std.proofs.lemmas.Option.{slice_get-map}
 use Rattle.pbs_base.specs.declared.entry.Entry.{Entry}
-use Rattle.pbs_base.specs.declared.entry.Entry.TheVariants.{Vector, Reset}
+use Rattle.pbs_base.specs.declared.entry.Entry.TheVariants.{Vector}
 use Rattle.pbs_base.specs.Entries.{and_then}
 use Rattle.pbs_cli.specs.declared.evaluate as cursor
 use Rattle.pbs_cli.specs.declared.line as declared
 use Rattle.pbs_cli.specs.Lines.{Step, Test, Fire, StepFits, Each, step_of, steps_of, fires}
-use Rattle.pbs_cli.specs.Evaluates.{Collects, IsAt, Stops, fires_from, passes, step_behind}
+use Rattle.pbs_cli.specs.Evaluates.{Collects, IsAt, passes, step_behind}
 
 -- ---- sets of actions
 

@@ -7,3 +7,6 @@ pub mod TraceLemmas
 pub mod EvaluateLemmas
 pub mod PortLemmas
 pub mod ReportLemmas
+pub mod LoadLemmas
+pub mod AnswerLemmas
+pub mod TopLemmas

@@ -1,5 +1,5 @@
 -- Names with a prefix.
-use Rattle.std.proofs.Common.{◌≡◌, ◌+◌, ℕ, zero, suc, true, false, List, [], ◌∷◌, ◌++◌, take, map, Bool, Some, None, Option, option_map, refl, sym, ap, ◌∙◌}
+use Rattle.std.proofs.Common.{◌≡◌, ◌+◌, ℕ, zero, suc, true, false, List, [], ◌∷◌, ◌++◌, take, Bool, Some, option_map, refl, sym, ap, ◌∙◌}
 use Rattle.std.specs.Prelude.{slice_get, Contains}
 use Rattle.std.proofs.lemmas.Option.{slice_get-map, same_Some}
 use Rattle.pbs_base.specs.Words.{AreDifferent}
@@ -15,10 +15,12 @@ cancels (x ∷ front) xs ys e = cancels front xs ys (ap tail e)
     tail (y ∷ ys) = ys
 
 ports_differ : (prefix : List ℕ) (names : List (List ℕ)) → AreDifferent names → AreDifferent (ports_of prefix names)
-ports_differ prefix names different = record { once = λ m n word p q.
-    let front = found m word p in
-    let back = found n word q in
-    different.once m n front.0 front.1 (back.1 ∙ ap Some (cancels prefix back.0 front.0 (back.2 ∙ sym front.2))) }
+ports_differ prefix names different = record {
+  once = λ m n word p q.
+      let front = found m word p in
+      let back = found n word q in
+      different.once m n front.0 front.1 (back.1 ∙ ap Some (cancels prefix back.0 front.0 (back.2 ∙ sym front.2)));
+}
   where
     found_in : (names : List (List ℕ)) (m : ℕ) (word : List ℕ) → slice_get (ports_of prefix names) m ≡ Some word → (name : List ℕ) × (slice_get names m ≡ Some name) × (prefix ++ name ≡ word)
     found_in [] m word p = absurd (cc)

@@ -1,15 +1,15 @@
 -- The report of a line, row by row.
-use Rattle.std.proofs.Common.{◌≡◌, ◌≢◌, ◌<◌, ◌≤◌, ◌+◌, ℕ, zero, suc, Bool, List, [], ◌∷◌, ◌++◌, length, map, codes, Option, Some, None, Result, Ok, Err, refl, sym, ap, subst, ◌∙◌, append_assoc, append-nil, length-append, arith, cond}
+use Rattle.std.proofs.Common.{◌≡◌, ◌<◌, ◌+◌, ℕ, zero, suc, List, [], ◌∷◌, ◌++◌, length, codes, Some, Result, Ok, Err, refl, sym, ap, subst, ◌∙◌, append_assoc, append-nil, length-append, arith}
 use Rattle.std.specs.Prelude.{slice_get}
 use Rattle.pbs_base.specs.declared.entry.Entry.{Entry}
 use Rattle.pbs_base.specs.declared.entry.Entry.TheVariants.{Vector, Reset}
 use Rattle.pbs_base.specs.Entries.{since, and_then}
 use Rattle.pbs_base.specs.Outside.{SinkState, Writes}
-use Rattle.trace_text.specs.Reports.{End, is_on, row_line, rows_text as lines_text, last_line, report}
+use Rattle.trace_text.specs.Reports.{End, is_on, row_line, rows_text as lines_text, last_line}
 use Rattle.trace_text.specs.Held.{Holds}
 use Rattle.trace_text.proofs.HeldLemmas.{HeldUpTo, nothing_held, piece_held, piece_unheld, all_flushed}
 use Rattle.trace_text.proofs.RowLemmas.{row_line-same}
-use Rattle.pbs_cli.specs.Lines.{Line, Each, IsProper, fires}
+use Rattle.pbs_cli.specs.Lines.{Line, Each, IsProper}
 use Rattle.pbs_cli.specs.Ports.{ports_of, row_fires, line_report}
 use Rattle.pbs_cli.specs.ThinTraces.{row_text, rows_text, EntryFits, BeginsRow, AreRows}
 use Rattle.pbs_cli.specs.Evaluates.{IsAt}
@@ -113,13 +113,16 @@ advanced a b line entries rest behind row cursor new held x so_far some read ste
     let same = row_same (length line.inputs) rest x next.entry behind (rows_text (length line.inputs) next.more) read next.begins in
     let todo_is : so_far.todo ≡ x ∷ next.more = next.is ∙ ap (λ y. y ∷ next.more) (sym same.0) in
     let whole : entries ≡ so_far.done ++ x ∷ next.more = so_far.split ∙ ap (λ l. so_far.done ++ l) todo_is in
-    let here : slice_get entries (length so_far.done) ≡ Some x = ap (λ l. slice_get l (length so_far.done)) whole ∙ at_middle so_far.done x next.more in
-    (next.more, todo_is, record {
-      split = whole ∙ sym (append_assoc so_far.done (x ∷ []) next.more);
-      rest_is = same.1;
-      fit = next.fit;
-      at = subst (λ o. IsAt line.steps (and_then (since entries (length so_far.done)) o) new) (sym here) (step (since entries (length so_far.done)) so_far.at);
-    })
+    let here : slice_get entries (length so_far.done) ≡ Some x = ap (λ l. slice_get l (length so_far.done)) whole ∙ at_middle so_far.done x next.more in (
+      next.more,
+      todo_is,
+      record {
+        split = whole ∙ sym (append_assoc so_far.done (x ∷ []) next.more);
+        rest_is = same.1;
+        fit = next.fit;
+        at = subst (λ o. IsAt line.steps (and_then (since entries (length so_far.done)) o) new) (sym here) (step (since entries (length so_far.done)) so_far.at);
+      },
+    )
 
 length-more : (done : List Entry) (x : Entry) → length (done ++ x ∷ []) ≡ suc (length done)
 length-more [] x = refl
@@ -184,7 +187,7 @@ before_end a b line entries rest row cursor held so_far none =
     let empty = none_left (length line.inputs) so_far.todo rest so_far.rest_is none in
     let count : length entries ≡ row = ap length (so_far.split ∙ (ap (λ l. so_far.done ++ l) empty ∙ append-nil so_far.done)) ∙ sym so_far.row_number in
     let text : report_from line entries (suc (length so_far.done)) (length so_far.todo) ≡ last_line row End ++ [] =
-        ap (λ t. report_from line entries (suc (length so_far.done)) (length t)) empty ∙ (ap (λ n. last_line n End) count ∙ sym (append-nil (last_line row End))) in
+    ap (λ t. report_from line entries (suc (length so_far.done)) (length t)) empty ∙ (ap (λ n. last_line n End) count ∙ sym (append-nil (last_line row End))) in
     subst (λ l. HeldUpTo a b (line_report line entries) l held) text so_far.text
 
 pub end_cut : {T U E F : Type 0} (a b c : SinkState) (line : Line) (entries : List Entry) (rest : List ℕ) (row : ℕ) (cursor : Cursor) (held held_now : List ℕ) (e : E) (f : F) → ReportSoFar a b line entries rest row cursor held → length rest ≡ 0

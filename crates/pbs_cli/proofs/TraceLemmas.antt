@@ -95,7 +95,7 @@ row_without_end n bytes back letter is none = no_row n bytes letter (λ x r e. n
 
 -- ---- the header
 
-front_cancels : (front r s : List ℕ) → front ++ r ≡ front ++ s → r ≡ s
+pub front_cancels : (front r s : List ℕ) → front ++ r ≡ front ++ s → r ≡ s
 front_cancels [] r s e = e
 front_cancels (x ∷ front) r s e = front_cancels front r s (ap rest_of e)
 

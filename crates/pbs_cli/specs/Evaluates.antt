@@ -1,5 +1,5 @@
 -- Running a line: what a cursor says of the rows that it has passed and of those to come.
-use Rattle.std.specs.Prelude.{◌≡◌, ℕ, ◌+◌, ◌<◌, Bool, false, List, [], ◌∷◌, ◌++◌, length, drop, slice_get, Option, Some, None}
+use Rattle.std.specs.Prelude.{◌≡◌, ℕ, ◌<◌, Bool, false, List, ◌++◌, length, drop, slice_get, Option, Some, None}
 use Rattle.bool_terms.specs.Terms.{holds}
 use Rattle.trace_text.specs.Reports.{is_on}
 use Rattle.pbs_cli.specs.Lines.{Step, Test, Fire, step_of, fires}

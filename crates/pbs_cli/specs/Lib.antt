@@ -6,3 +6,8 @@ pub mod ThinHeads
 pub mod ThinTraces
 pub mod Evaluates
 pub mod Ports
+pub mod Words
+pub mod Status
+pub mod Load
+pub mod Answers
+pub mod FirstFiles

@@ -1,12 +1,18 @@
-//! The commands of the program.
+//! The commands of the program, over a shelf of files and a sink that are lent to it.
 #![tactic(auto)]
 
+mod command;
 mod entries;
 mod evaluate;
 mod line;
+mod load;
 mod ports;
 mod report;
+mod status;
 mod thin;
 mod tokens;
+mod top;
+mod trace;
 
 pub use line::{Step, Steps};
+pub use top::run;
