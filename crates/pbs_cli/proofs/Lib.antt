@@ -10,3 +10,6 @@ pub mod ReportLemmas
 pub mod LoadLemmas
 pub mod AnswerLemmas
 pub mod TopLemmas
+pub mod BuildLemmas
+pub mod BuildWires
+pub mod BuildPorts

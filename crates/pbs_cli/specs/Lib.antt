@@ -11,3 +11,5 @@ pub mod Status
 pub mod Load
 pub mod Answers
 pub mod FirstFiles
+pub mod Builds
+pub mod LineWires
