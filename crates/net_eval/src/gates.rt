@@ -1,0 +1,96 @@
+// The values of wires and of gates, and of all gates in order.
+ghost use Rattle.std.specs.Prelude.{◌≡◌, length};
+ghost use Rattle.net_core.specs.Rows.{IsRow, all_of, any_of, gate_value, odd_of, value};
+ghost use Rattle.net_core.specs.Circuits.{AllThere, IsThere};
+ghost use Rattle.net_eval.specs.Assignments.{IsOrdered};
+ghost use Rattle.net_eval.specs.States.{begun_row};
+
+use net_core::{Gate, GateKind, Wire};
+
+/// What a row begins with.
+#[derive(Clone, Copy)]
+pub struct Begun<'a> {
+    pub registers: &'a [bool],
+    pub reset: bool,
+    pub inputs: u64,
+}
+
+/// The value of a wire.
+pub fn wire_value(wire: Wire, row: &Begun, gates: &[bool]) -> bool
+    requires { IsThere 64 (length row.now.registers.now) (length gates.now) wire }
+    ensures { result ≡ value (begun_row row.now gates.now) wire }
+{
+    match wire {
+        Wire::Const(bit) => bit,
+        Wire::Reset => row.reset,
+        Wire::Input(n) => (row.inputs >> n) % 2 == 1,
+        Wire::Reg(n) => row.registers[n as usize],
+        Wire::Gate(n) => gates[n as usize],
+    }
+}
+
+fn all_are(pins: &[Wire], row: &Begun, gates: &[bool]) -> bool
+    requires { AllThere 64 (length row.now.registers.now) (length gates.now) pins.now }
+    ensures { result ≡ all_of (begun_row row.now gates.now) pins.now }
+{
+    for pin in pins {
+        if !wire_value(*pin, row, gates) {
+            return false;
+        }
+    }
+    true
+}
+
+fn any_is(pins: &[Wire], row: &Begun, gates: &[bool]) -> bool
+    requires { AllThere 64 (length row.now.registers.now) (length gates.now) pins.now }
+    ensures { result ≡ any_of (begun_row row.now gates.now) pins.now }
+{
+    for pin in pins {
+        if wire_value(*pin, row, gates) {
+            return true;
+        }
+    }
+    false
+}
+
+fn odd_are(pins: &[Wire], row: &Begun, gates: &[bool]) -> bool
+    requires { AllThere 64 (length row.now.registers.now) (length gates.now) pins.now }
+    ensures { result ≡ odd_of (begun_row row.now gates.now) pins.now }
+{
+    let mut odd = false;
+    for pin in pins {
+        if wire_value(*pin, row, gates) {
+            odd = !odd;
+        }
+    }
+    odd
+}
+
+fn gate_output(gate: &Gate, row: &Begun, gates: &[bool]) -> bool
+    requires { AllThere 64 (length row.now.registers.now) (length gates.now) gate.now.pins }
+    ensures { result ≡ gate_value (begun_row row.now gates.now) gate.now }
+{
+    let pins = gate.pins.as_slice();
+    match gate.kind {
+        GateKind::Buf => all_are(pins, row, gates),
+        GateKind::Not => !all_are(pins, row, gates),
+        GateKind::And => all_are(pins, row, gates),
+        GateKind::Or => any_is(pins, row, gates),
+        GateKind::Nand => !all_are(pins, row, gates),
+        GateKind::Nor => !any_is(pins, row, gates),
+        GateKind::Xor => odd_are(pins, row, gates),
+        GateKind::Xnor => !odd_are(pins, row, gates),
+    }
+}
+
+/// The values of all gates, which make the row.
+pub fn settle(net: &[Gate], row: &Begun, gates: &mut [bool])
+    requires ordered { IsOrdered 64 (length row.now.registers.now) net.now }
+    requires long { length gates.old ≡ length net.now }
+    ensures { IsRow net.now (begun_row row.now gates.new) }
+{
+    for n in 0..net.len() {
+        let output = gate_output(&net[n], row, gates);
+        gates[n] = output;
+    }
+}

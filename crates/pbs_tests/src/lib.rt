@@ -1,0 +1,16 @@
+//! Tests of the public calls of all crates with ample memory. Each expected value is worked out by hand or stands in
+//! docs/.
+#![tactic(auto)]
+
+#[cfg(test)]
+mod files;
+#[cfg(test)]
+mod lines;
+#[cfg(test)]
+mod outside;
+#[cfg(test)]
+mod runs;
+#[cfg(test)]
+mod statuses;
+#[cfg(test)]
+mod values;
