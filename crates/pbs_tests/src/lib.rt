@@ -5,9 +5,9 @@
 #[cfg(test)]
 mod files;
 #[cfg(test)]
-mod lines;
-#[cfg(test)]
 mod outside;
+#[cfg(test)]
+mod reports;
 #[cfg(test)]
 mod runs;
 #[cfg(test)]

@@ -1,0 +1,15 @@
+pub mod Counted
+pub mod Growing
+pub mod Joins
+pub mod Limits
+pub mod Main
+pub mod PartForms
+pub mod PartRules
+pub mod PartWords
+pub mod ProperTrees
+pub mod Rows
+pub mod Strips
+pub mod TermRows
+pub mod VisitLaws
+pub mod WideLemmas
+pub mod WritingLoop

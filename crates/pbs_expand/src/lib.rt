@@ -1,0 +1,12 @@
+//! The expansion of a specification into the tree of main, within its limits.
+#![tactic(auto)]
+
+mod build;
+mod expansion;
+mod failure;
+mod growth;
+mod parts;
+mod terms;
+
+pub use expansion::expand;
+pub use failure::Expand;

@@ -1,0 +1,13 @@
+pub mod Walks
+pub mod Finishes
+pub mod Phrases
+pub mod Exact
+pub mod Lexes
+pub mod Decimals
+pub mod Descends
+pub mod MarkLemmas
+pub mod TermExits
+pub mod ExprExits
+pub mod DeclExits
+pub mod TextExits
+pub mod AnswerLemmas

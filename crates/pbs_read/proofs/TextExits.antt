@@ -1,0 +1,317 @@
+-- Each exit of the functions that read whole texts, over plain variables.
+use Rattle.std.proofs.Common.{◌≡◌, ℕ, ◌<◌, List, [], ◌∷◌, ◌++◌, length, map, Bool, Some, None, Err, refl, sym, ap, ap₂, ◌∙◌, false, true, arith}
+use Rattle.std.specs.Prelude.{option_map}
+use Rattle.pbs_ast.specs.declared.syntax.Expr.{Expr}
+use Rattle.pbs_read.specs.declared.fail.ReadSpec.{ReadSpec}
+use Rattle.pbs_read.specs.declared.fail.ReadSpec.TheVariants.{Memory, Refused}
+use Rattle.pbs_read.specs.Reading.{stepped, bind, read}
+use Rattle.pbs_read.specs.Descent.{BeginsWith, NoFront, front_refusal, behind_expr, ReadsExpr, StopsExpr}
+use Rattle.std.proofs.lemmas.List.{map-append}
+use Rattle.pbs_ast.specs.declared.syntax.Decl.{Decl}
+use Rattle.pbs_ast.specs.declared.syntax.Level.{Level}
+use Rattle.pbs_ast.specs.declared.syntax.Prod.{Prod}
+use Rattle.pbs_ast.specs.declared.syntax.Spec.{Spec}
+use Rattle.pbs_read.specs.declared.spec.Lists.{Lists}
+use Rattle.pbs_read.specs.declared.spec.DeclWord.{DeclWord}
+use Rattle.pbs_read.specs.declared.spec.DeclWord.TheVariants.{OfInput, OfAction, OfLevel, OfProd}
+use Rattle.pbs_read.specs.Bare.{bare_prod}
+use Rattle.pbs_read.specs.Trees.{Declared, with_decl}
+use Rattle.pbs_read.specs.DeclDescent.{ReadsInputs, StopsInputs, ReadsNames, StopsNames, StopsLevel, ReadsLevel, ReadsProd, StopsProd}
+use Rattle.pbs_read.specs.TextDescent.{bare_lists, nothing_yet, made_spec, decl_word, decl_kind, behind_word, ReadsVersion, StopsVersion, TakesDeclWord, ReadsDecl, StopsDecl, ReadsDecls, StopsDecls, ReadsMain, StopsMain, ReadsText, StopsText}
+use Rattle.pbs_base.specs.declared.refusal.Span.{Span}
+use Rattle.pbs_read.specs.declared.token.Token.{Token}
+use Rattle.pbs_read.specs.declared.token.TokenKind.{TokenKind}
+use Rattle.pbs_read.specs.declared.token.TokenKind.TheVariants.{One, Two, SpecWord, InputWord, ActionWord, LevelWord, ProdWord, MainWord, Semicolon, Comma, Equals, Bar}
+use Rattle.pbs_read.specs.Grammar.{token, version_kind, ExprPhrase, OneSeq, MoreSeqs, OneItem, MoreItems, InputDecl, ActionDecl, LevelDecl, ProdDecl, DeclsPhrase, NoDecls, MoreDecls, OfVersion}
+use Rattle.pbs_read.specs.Places.{Front, OfProd, OfMain, AfterSpec, AfterVersion, InDecls, Whole}
+use Rattle.pbs_read.specs.Steps.{version_of, whole_spec, first_front, step}
+use Rattle.pbs_read.proofs.ExprExits.{unclosed}
+
+-- ---- the version
+
+takes_version : (end : ℕ) (a : Span) (two : Bool) (b c : Span) (new : List Token)
+    → read end (AfterSpec a) (token (version_kind two) b ∷ token Semicolon c ∷ new) ≡ read end
+    (InDecls (first_front two a b c)) new
+takes_version end a false b c new = refl
+takes_version end a true b c new = refl
+
+version_at : (k : TokenKind) (two : Bool) → Some two ≡ version_of k → version_kind two ≡ k
+version_at One two e = let same : two ≡ false = cc in ap version_kind same
+version_at Two two e = let same : two ≡ true = cc in ap version_kind same
+version_at _ two e = absurd (cc)
+
+pub version_read : (end : ℕ) (old one rest new : List Token) (a c : Span) (t : Token) (two : Bool)
+    → old ≡ token SpecWord a ∷ one → one ≡ t ∷ rest → Some two ≡ version_of t.kind → rest ≡ token Semicolon c ∷ new
+    → ReadsVersion end old two new
+version_read end old one rest new a c t two e f k g =
+    let is : one ≡ token (version_kind two) t.span ∷ rest = f
+    ∙ ap (λ x. token x t.span ∷ rest) (sym (version_at t.kind two k)) in
+    record {
+      spec_at = a;
+      version_at = t.span;
+      start_at = c;
+      goes_on = rw e
+          (rw is (rw g (takes_version end a two t.span c new)));
+    }
+
+no_version : (end : ℕ) (a : Span) (ts : List Token) → NoFront version_of ts
+    → read end (AfterSpec a) ts ≡ Err (front_refusal end ts)
+no_version end a [] none = refl
+no_version end a (t ∷ ts) none = ap (λ o. bind (λ q. read end q ts)
+    (stepped (option_map (λ two. AfterVersion two a t.span) o) t.span)) none
+
+pub no_version_front : (ts rest : List Token) (t : Token) → ts ≡ t ∷ rest → None ≡ version_of t.kind
+    → NoFront version_of ts
+no_version_front ts rest t e f = rw e (sym f)
+
+pub version_stops : (end : ℕ) (old one : List Token) (a : Span) → old ≡ token SpecWord a ∷ one → NoFront version_of one
+    → StopsVersion end old (Refused (front_refusal end one))
+version_stops end old one a e none = rw e (no_version end a one none)
+
+takes_number : (end : ℕ) (a : Span) (two : Bool) (b : Span) (z : List Token)
+    → read end (AfterSpec a) (token (version_kind two) b ∷ z) ≡ read end (AfterVersion two a b) z
+takes_number end a false b z = refl
+takes_number end a true b z = refl
+
+stuck_version : (end : ℕ) (two : Bool) (a b : Span) (ts : List Token) → (BeginsWith Semicolon ts → ⊥)
+    → read end (AfterVersion two a b) ts ≡ Err (front_refusal end ts)
+stuck_version end two a b [] other = refl
+stuck_version end two a b (t ∷ ts) other = ap (λ s. bind (λ q. read end q ts) (stepped s t.span)) (by t.kind other)
+  where
+    by : (k : TokenKind) → (k ≡ Semicolon → ⊥) → step (AfterVersion two a b) k t.span ≡ None
+    by Semicolon x = absurd (x refl)
+    by _ x = refl
+
+pub version_unended : (end : ℕ) (old one rest : List Token) (a : Span) (t : Token) (two : Bool) (e : ReadSpec)
+    → old ≡ token SpecWord a ∷ one → one ≡ t ∷ rest → Some two ≡ version_of t.kind
+    → (e ≡ Refused (front_refusal end rest)) × (BeginsWith Semicolon rest → ⊥) → StopsVersion end old e
+version_unended end old one rest a t two e f g k stop =
+    let is : one ≡ token (version_kind two) t.span ∷ rest = g
+    ∙ ap (λ x. token x t.span ∷ rest) (sym (version_at t.kind two k)) in
+    rw (stop.0) (rw f (rw is (takes_number end a two t.span rest ∙ stuck_version end two a t.span rest stop.1)))
+
+-- ---- declarations
+
+word_at_kind : (k : TokenKind) (found : DeclWord) → Some found ≡ decl_word k → decl_kind found ≡ k
+word_at_kind InputWord found e = let same : found ≡ OfInput = cc in ap decl_kind same
+word_at_kind ActionWord found e = let same : found ≡ OfAction = cc in ap decl_kind same
+word_at_kind LevelWord found e = let same : found ≡ OfLevel = cc in ap decl_kind same
+word_at_kind ProdWord found e = let same : found ≡ OfProd = cc in ap decl_kind same
+word_at_kind _ found e = absurd (cc)
+
+pub word_found : (old rest : List Token) (t : Token) (found : DeclWord) → old ≡ t ∷ rest → Some found ≡ decl_word t.kind
+    → TakesDeclWord old found rest
+word_found old rest t found e f = record {
+  at = t.span;
+  taken = e
+      ∙ ap (λ k. token k t.span ∷ rest) (sym (word_at_kind t.kind found f));
+}
+
+pub no_word_front : (ts rest : List Token) (t : Token) → ts ≡ t ∷ rest → None ≡ decl_word t.kind → NoFront decl_word ts
+no_word_front ts rest t e f = rw e (sym f)
+
+pub decl_inputs : (two : Bool) (bytes : List ℕ) (end : ℕ) (old new : List Token) (l : Lists) (xs : List Decl)
+    → ReadsInputs two bytes end old l.inputs xs new
+    → ReadsDecl two bytes end OfInput old (bare_lists l) (bare_lists (record l { inputs = xs })) new
+decl_inputs two bytes end old new l xs r =
+    record {
+      phrase = λ at. InputDecl at r.phrase r.end_at;
+      value_is = λ at. ap
+          (λ x. bare_lists (record l { inputs = x })) r.value_is;
+      goes_on = λ f at. r.goes_on f at;
+      shorter = r.shorter;
+    }
+
+pub decl_inputs_stops : (two : Bool) (end : ℕ) (old : List Token) (e : ReadSpec) → StopsInputs two end old e
+    → StopsDecl two end OfInput old e
+decl_inputs_stops two end old Memory s = tt
+decl_inputs_stops two end old (Refused r) s = s
+
+pub decl_names : (two : Bool) (bytes : List ℕ) (end : ℕ) (old new : List Token) (l : Lists) (xs : List Decl)
+    → ReadsNames bytes end old l.actions xs new
+    → ReadsDecl two bytes end OfAction old (bare_lists l) (bare_lists (record l { actions = xs })) new
+decl_names two bytes end old new l xs r =
+    record {
+      phrase = λ at. ActionDecl at r.phrase r.end_at;
+      value_is = λ at. ap
+          (λ x. bare_lists (record l { actions = x })) r.value_is;
+      goes_on = λ f at. r.goes_on two f at;
+      shorter = r.shorter;
+    }
+
+pub decl_names_stops : (two : Bool) (end : ℕ) (old : List Token) (e : ReadSpec) → StopsNames end old e
+    → StopsDecl two end OfAction old e
+decl_names_stops two end old Memory s = tt
+decl_names_stops two end old (Refused r) s = λ f at. s two f at
+
+pub decl_level : (two : Bool) (bytes : List ℕ) (end : ℕ) (old new : List Token) (l : Lists) (xs : List Level)
+    (x : Level) → xs ≡ l.levels ++ x ∷ [] → ReadsLevel bytes end old x new
+    → ReadsDecl two bytes end OfLevel old (bare_lists l) (bare_lists (record l { levels = xs })) new
+decl_level two bytes end old new l xs x e r =
+    record {
+      phrase = λ at. LevelDecl at r.name_at r.equals_at r.value r.bit_at r.open_at r.sets r.close_at;
+      value_is = λ at. ap (λ y. bare_lists (record l { levels = y })) (e ∙ ap (λ y. l.levels ++ y ∷ []) r.value_is);
+      goes_on = λ f at. r.goes_on two f at;
+      shorter = r.shorter;
+    }
+
+pub decl_level_stops : (two : Bool) (end : ℕ) (old : List Token) (e : ReadSpec) → StopsLevel end old e
+    → StopsDecl two end OfLevel old e
+decl_level_stops two end old Memory s = tt
+decl_level_stops two end old (Refused r) s = λ f at. s two f at
+
+pub decl_prod : (two : Bool) (bytes : List ℕ) (end : ℕ) (old new : List Token) (l : Lists) (xs : List Prod) (x : Prod)
+    → xs ≡ l.prods ++ x ∷ [] → ReadsProd two bytes end old (bare_prod x) new
+    → ReadsDecl two bytes end OfProd old (bare_lists l) (bare_lists (record l { prods = xs })) new
+decl_prod two bytes end old new l xs x e r =
+    record {
+      phrase = λ at. ProdDecl at r.name_at r.equals_at r.body r.end_at;
+      value_is = λ at. ap with_prods (ap (map bare_prod) e ∙ (map-append bare_prod l.prods (x ∷ [])
+          ∙ ap (λ y. map bare_prod l.prods ++ y ∷ []) r.value_is));
+      goes_on = λ f at. r.goes_on f at;
+      shorter = r.shorter;
+    }
+  where
+    with_prods : List Prod → Declared
+    with_prods y = record { inputs = l.inputs; actions = l.actions; levels = l.levels; prods = y }
+
+pub decl_prod_stops : (two : Bool) (end : ℕ) (old : List Token) (e : ReadSpec) → StopsProd two end old e
+    → StopsDecl two end OfProd old e
+decl_prod_stops two end old Memory s = tt
+decl_prod_stops two end old (Refused r) s = s
+
+pub decls_none : (two : Bool) (bytes : List ℕ) (end : ℕ) (old : List Token) (lists : Declared) → lists ≡ nothing_yet
+    → ReadsDecls two bytes end old lists old
+decls_none two bytes end old lists e = record { phrase = NoDecls; value_is = e; goes_on = λ a b c. refl }
+
+starts_decl : {two : Bool} (end : ℕ) (found : DeclWord) (f : Front two) (at : Span) (z : List Token)
+    → read end (InDecls f) (token (decl_kind found) at ∷ z) ≡ read end (behind_word found f at) z
+starts_decl end OfInput f at z = refl
+starts_decl end OfAction f at z = refl
+starts_decl end OfLevel f at z = refl
+starts_decl end OfProd f at z = refl
+
+abbrev front_with : (two : Bool) → Span → Span → Span → DeclsPhrase two → Front two
+front_with two a b c ds = record { spec_at = a; version_at = b; start_at = c; decls = ds }
+
+pub decls_more : (two : Bool) (bytes : List ℕ) (end : ℕ) (old rest after more : List Token) (lists next : Declared)
+    (found : DeclWord) → TakesDeclWord rest found after → ReadsDecls two bytes end old lists rest
+    → ReadsDecl two bytes end found after lists next more → ReadsDecls two bytes end old next more
+decls_more two bytes end old rest after more lists next found t s r =
+    record {
+      phrase = MoreDecls s.phrase (r.phrase t.at);
+      value_is = r.value_is t.at ∙ ap (λ d. with_decl bytes d (r.phrase t.at)) s.value_is;
+      goes_on = λ a b c. s.goes_on a b c ∙ rw (t.taken) (starts_decl end found
+          (front_with two a b c s.phrase) t.at after ∙ r.goes_on (front_with two a b c s.phrase) t.at);
+    }
+
+pub decls_shorter : (two : Bool) (bytes : List ℕ) (end : ℕ) (rest after more : List Token) (lists next : Declared)
+    (found : DeclWord) → TakesDeclWord rest found after → ReadsDecl two bytes end found after lists next more
+    → length more < length rest
+decls_shorter two bytes end rest after more lists next found t r = let i = ap length t.taken in let j =
+    r.shorter in omega arith
+
+pub decls_stop : (two : Bool) (bytes : List ℕ) (end : ℕ) (old rest after : List Token) (lists : Declared)
+    (found : DeclWord) (e : ReadSpec) → TakesDeclWord rest found after → ReadsDecls two bytes end old lists rest
+    → StopsDecl two end found after e → StopsDecls two end old e
+decls_stop two bytes end old rest after lists found Memory t s stops = tt
+decls_stop two bytes end old rest after lists found (Refused r) t s stops =
+    λ a b c. s.goes_on a b c ∙ rw (t.taken) (starts_decl end found (front_with two a b c s.phrase) t.at after
+    ∙ stops (front_with two a b c s.phrase) t.at)
+
+-- ---- main
+
+stuck_decl : {two : Bool} (end : ℕ) (f : Front two) (ts : List Token) → NoFront decl_word ts
+    → (BeginsWith MainWord ts → ⊥) → read end (InDecls f) ts ≡ Err (front_refusal end ts)
+stuck_decl end f [] none other = refl
+stuck_decl end f (t ∷ ts) none other = ap (λ s. bind (λ q. read end q ts) (stepped s t.span)) (by t.kind none other)
+  where
+    by : (k : TokenKind) → decl_word k ≡ None → (k ≡ MainWord → ⊥) → step (InDecls f) k t.span ≡ None
+    by InputWord n x = absurd (cc)
+    by ActionWord n x = absurd (cc)
+    by LevelWord n x = absurd (cc)
+    by ProdWord n x = absurd (cc)
+    by MainWord n x = absurd (x refl)
+    by _ n x = refl
+
+pub main_none : (two : Bool) (end : ℕ) (old : List Token) (e : ReadSpec) → NoFront decl_word old
+    → (e ≡ Refused (front_refusal end old)) × (BeginsWith MainWord old → ⊥) → StopsMain two end old e
+main_none two end old e none stop = rw (stop.0) (λ f. stuck_decl end f old none stop.1)
+
+closes_main : {two : Bool} (end : ℕ) (e : ExprPhrase two) (f : Front two) (m q c : Span) (new : List Token)
+    → read end (behind_expr e (OfMain f m q)) (token Semicolon c ∷ new) ≡ read end
+    (Whole (OfVersion two (whole_spec f m q e c))) new
+closes_main end (OneSeq (OneItem i)) f m q c new = refl
+closes_main end (OneSeq (MoreItems s b i)) f m q c new = refl
+closes_main end (MoreSeqs e x (OneItem i)) f m q c new = refl
+closes_main end (MoreSeqs e x (MoreItems s b i)) f m q c new = refl
+
+pub main_read : (two : Bool) (bytes : List ℕ) (end : ℕ) (old one two_of three new : List Token) (m q c : Span)
+    (x : Expr) (extent : Span) → old ≡ token MainWord m ∷ one → one ≡ token Equals q ∷ two_of
+    → ReadsExpr two bytes end 0 two_of x extent three → three ≡ token Semicolon c ∷ new → length new ≡ 0
+    → ReadsMain two bytes end old x
+main_read two bytes end old one two_of three [] m q c x extent e f r g none =
+    record {
+      main_at = m;
+      equals_at = q;
+      phrase = r.phrase;
+      end_at = c;
+      value_is = r.value_is;
+      goes_on = λ h. rw e (rw f (r.goes_on (OfMain h m q) refl ∙ rw g (closes_main end r.phrase h m q c [])));
+    }
+main_read two bytes end old one two_of three (t ∷ new) m q c x extent e f r g none = absurd (omega arith)
+
+pub main_expr_stops : (two : Bool) (end : ℕ) (old one two_of : List Token) (m q : Span) (e : ReadSpec)
+    → old ≡ token MainWord m ∷ one → one ≡ token Equals q ∷ two_of → StopsExpr two end 0 two_of e
+    → StopsMain two end old e
+main_expr_stops two end old one two_of m q Memory f g stops = tt
+main_expr_stops two end old one two_of m q (Refused r) f g stops = λ h. rw f (rw g (stops (OfMain h m q) refl))
+
+pub main_unended : (two : Bool) (bytes : List ℕ) (end : ℕ) (old one two_of three : List Token) (m q : Span) (x : Expr)
+    (extent : Span) (e : ReadSpec) → old ≡ token MainWord m ∷ one → one ≡ token Equals q ∷ two_of
+    → ReadsExpr two bytes end 0 two_of x extent three → (BeginsWith Comma three → ⊥) → (BeginsWith Bar three → ⊥)
+    → (e ≡ Refused (front_refusal end three)) × (BeginsWith Semicolon three → ⊥) → StopsMain two end old e
+main_unended two bytes end old one two_of three m q x extent e f g r a b stop =
+    rw (stop.0)
+    (λ h. rw f
+    (rw g (r.goes_on (OfMain h m q) refl ∙ unclosed end r.phrase (OfMain h m q) three a b (λ _ _. refl)
+    (λ _ k. absurd (stop.1 k)))))
+
+pub main_more : (two : Bool) (bytes : List ℕ) (end : ℕ) (old one two_of three new : List Token) (m q c : Span)
+    (x : Expr) (extent : Span) → old ≡ token MainWord m ∷ one → one ≡ token Equals q ∷ two_of
+    → ReadsExpr two bytes end 0 two_of x extent three → three ≡ token Semicolon c ∷ new → 0 < length new
+    → StopsMain two end old (Refused (front_refusal end new))
+main_more two bytes end old one two_of three [] m q c x extent e f r g some = absurd (omega arith)
+main_more two bytes end old one two_of three (t ∷ new) m q c x extent e f r g some = λ h. rw e
+    (rw f (r.goes_on (OfMain h m q) refl ∙ rw g (closes_main end r.phrase h m q c (t ∷ new))))
+
+-- ---- the text
+
+pub text_read : (bytes : List ℕ) (end : ℕ) (two : Bool) (old one two_of : List Token) (lists : Declared) (x : Expr)
+    (spec : Spec) → spec ≡ made_spec two lists x → ReadsVersion end old two one
+    → ReadsDecls two bytes end one lists two_of
+    → ReadsMain two bytes end two_of x → ReadsText bytes end old spec
+text_read bytes end two old one two_of lists x spec e v d m =
+    let f : Front two = front_with two v.spec_at v.version_at v.start_at d.phrase in
+    record {
+      phrase = OfVersion two (whole_spec f m.main_at m.equals_at m.phrase m.end_at);
+      is_read = v.goes_on ∙ (d.goes_on v.spec_at v.version_at v.start_at ∙ m.goes_on f);
+      value_is = e ∙ ap₂ (made_spec two) d.value_is m.value_is;
+    }
+
+pub text_decls_stop : (end : ℕ) (two : Bool) (old one : List Token) (e : ReadSpec) → ReadsVersion end old two one
+    → StopsDecls two end one e → StopsText end old e
+text_decls_stop end two old one Memory v stops = tt
+text_decls_stop end two old one (Refused r) v stops = v.goes_on ∙ stops v.spec_at v.version_at v.start_at
+
+pub text_main_stop : (bytes : List ℕ) (end : ℕ) (two : Bool) (old one two_of : List Token) (lists : Declared)
+    (e : ReadSpec) → ReadsVersion end old two one → ReadsDecls two bytes end one lists two_of
+    → StopsMain two end two_of e → StopsText end old e
+text_main_stop bytes end two old one two_of lists Memory v d stops = tt
+text_main_stop bytes end two old one two_of lists (Refused r) v d stops =
+    v.goes_on ∙ (d.goes_on v.spec_at v.version_at v.start_at ∙ stops
+    (front_with two v.spec_at v.version_at v.start_at d.phrase))
+
+pub text_version_stop : (end : ℕ) (old : List Token) (e : ReadSpec) → StopsVersion end old e → StopsText end old e
+text_version_stop end old Memory stops = tt
+text_version_stop end old (Refused r) stops = stops

@@ -1,0 +1,5 @@
+use Rattle.pbs_read.proofs.AnswerLemmas as lemma
+use Rattle.pbs_read.proofs.spec.one_answer.Goals as goal
+
+pub returns : goal.returns
+returns c bytes a b = lemma.one_answer bytes a b

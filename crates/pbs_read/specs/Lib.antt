@@ -1,0 +1,13 @@
+pub mod Grammar
+pub mod Bare
+pub mod Trees
+pub mod Places
+pub mod Steps
+pub mod Reading
+pub mod Refusals
+pub mod Lexing
+pub mod Answers
+pub mod Descent
+pub mod Marks
+pub mod DeclDescent
+pub mod TextDescent
