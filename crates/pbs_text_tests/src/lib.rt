@@ -1,0 +1,9 @@
+//! Tests of the reader of specifications and of their canonical text. Each expected value is worked out by hand.
+#![tactic(auto)]
+
+#[cfg(test)]
+mod canonical;
+#[cfg(test)]
+mod refusals;
+#[cfg(test)]
+mod texts;
