@@ -14,7 +14,7 @@ pub struct Bus {
 
 /// How many inputs the declaration stands for.
 #[tactic(auto, using(crate::proofs::NameLemmas::plain_count, crate::proofs::NameLemmas::bus_count))]
-fn input_count(decl: &Decl) -> u8
+pub fn input_count(decl: &Decl) -> u8
     ensures { result ≡ length (inputs_of decl.now) }
 {
     if decl.width == 0 { 1 } else { decl.width }

@@ -6,6 +6,6 @@ mod buses;
 mod index;
 mod names;
 
-pub use buses::{Bus, find_bus};
+pub use buses::{Bus, find_bus, input_count};
 pub use index::{Index, Numbers, body_of};
 pub use names::{action_words, bit_word, input_words, prod_words};

@@ -1,0 +1,14 @@
+pub mod DeclaringRules
+pub mod FactLemmas
+pub mod FactTruth
+pub mod LeastLemmas
+pub mod LimitRules
+pub mod MovingRules
+pub mod NamedLemmas
+pub mod RecursionLemmas
+pub mod SettleLemmas
+pub mod StandLemmas
+pub mod TwiceLemmas
+pub mod TwicePlaces
+pub mod UseRules
+pub mod WalkLemmas

@@ -1,0 +1,10 @@
+pub mod Checked
+pub mod Declaring
+pub mod Facts
+pub mod Least
+pub mod Recursion
+pub mod Stages
+pub mod Truth
+pub mod Twices
+pub mod Using
+pub mod Walking

@@ -1,0 +1,75 @@
+// The least place at which each rule is broken.
+ghost use Rattle.std.specs.Prelude.{IfOk};
+ghost use Rattle.pbs_check.specs.Declaring.{Rule5, Rule11};
+ghost use Rattle.pbs_check.specs.Least.{IsLeast};
+ghost use Rattle.pbs_check.specs.Stages.{IsTables};
+ghost use Rattle.pbs_check.specs.Truth.{IsKnown};
+ghost use Rattle.pbs_rules.specs.Moving.{Rule9, Rule10};
+ghost use Rattle.pbs_check.specs.Using.{Rule6, Rule7, Rule18, Rule19};
+
+use crate::declaring::{found_over, found_twice};
+use crate::uses::{Look, Tables};
+use crate::walks::found_in;
+use pbs_ast::Spec;
+use pbs_base::{Memory, Span};
+use std::alloc::Global;
+
+/// A name declared twice, of whatever kinds, or an action listed twice in one level.
+pub fn rule_5(alloc: Global, spec: &Spec) -> Result<Option<Span>, Memory>
+    ensures { IfOk result (IsLeast (Rule5 spec.now)) }
+{
+    found_twice(alloc, spec)
+}
+
+/// A name that is used and not declared.
+pub fn rule_6(tables: &Tables, spec: &Spec) -> Option<Span>
+    requires { IsTables spec.now tables.now }
+    ensures { IsLeast (Rule6 spec.now) result }
+{
+    found_in(Look::Declared, tables, spec)
+}
+
+/// A name of the wrong kind.
+pub fn rule_7(tables: &Tables, spec: &Spec) -> Option<Span>
+    requires { IsTables spec.now tables.now }
+    ensures { IsLeast (Rule7 spec.now) result }
+{
+    found_in(Look::Kinds, tables, spec)
+}
+
+/// More than 64 input bits, actions or levels.
+pub fn rule_11(spec: &Spec) -> Option<Span>
+    ensures { IsLeast (Rule11 spec.now) result }
+{
+    found_over(spec)
+}
+
+/// A comparison whose number needs more bits than the bus has.
+pub fn rule_18(tables: &Tables, spec: &Spec) -> Option<Span>
+    ensures { IsLeast (Rule18 spec.now) result }
+{
+    found_in(Look::Numbers, tables, spec)
+}
+
+/// A repetition whose numbers are wrong.
+pub fn rule_19(tables: &Tables, spec: &Spec) -> Option<Span>
+    ensures { IsLeast (Rule19 spec.now) result }
+{
+    found_in(Look::Copies, tables, spec)
+}
+
+/// A star or plus whose body may be empty.
+pub fn rule_9(tables: &Tables, spec: &Spec) -> Option<Span>
+    requires { IsKnown spec.now tables.now }
+    ensures { IsLeast (Rule9 spec.now) result }
+{
+    found_in(Look::Stars, tables, spec)
+}
+
+/// A scope with a trap that may be empty or has actions or scopes, or with a body without terminals.
+pub fn rule_10(tables: &Tables, spec: &Spec) -> Option<Span>
+    requires { IsKnown spec.now tables.now }
+    ensures { IsLeast (Rule10 spec.now) result }
+{
+    found_in(Look::Scopes, tables, spec)
+}
