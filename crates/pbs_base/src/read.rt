@@ -37,7 +37,8 @@ pub fn read_all<S: Shelf>(
     requires slot_in { slot < 2 }
     requires limit_in { limit < 1073741824 }
     requires empty { out.old.items ≡ [] }
-    ensures { ReadsAll (S.state shelf.old) (S.state shelf.new) slot limit out.new.items result }
+    ensures reads { ReadsAll (S.state shelf.old) (S.state shelf.new) slot limit out.new.items result }
+    ensures short { IfOk result (λ done. length out.new.items ≤ limit) }
 {
     let Ok(mut piece) = vec![in alloc; 0u8; PIECE] else {
         return Err(ReadFail::Memory);
