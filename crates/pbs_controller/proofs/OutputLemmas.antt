@@ -1,0 +1,130 @@
+-- The ports of a controller, and what its outputs show.
+use Rattle.std.proofs.Common.{◌≡◌, ◌<◌, ◌+◌, true, ℕ, suc, List, [], ◌∷◌, ◌++◌, length, take, map, Some, refl}
+use Rattle.std.proofs.Common.{sym, ap, ◌∙◌, arith, get_or, codes, length-append, length-take, below_more}
+use Rattle.std.specs.Prelude.{slice_get}
+use Rattle.std.proofs.Math.Seq.{get_or-append_seam}
+use Rattle.std.proofs.lemmas.List.{map-append, take_more, get_or_append_left, get_or-take}
+use Rattle.std.proofs.lemmas.Option.{slice_get_within, get_or_from_slice_get, slice_get-get_or}
+use Rattle.std.proofs.lemmas.Option.{slice_get-map}
+use Rattle.std.specs.Option.{option_map}
+use Rattle.pbs_base.specs.Words.{AreDifferent}
+use Rattle.net_core.specs.declared.gate.Wire.{Wire}
+use Rattle.net_core.specs.declared.netlist.Output.{Output}
+use Rattle.net_core.specs.Rows.{Row, IsRow, value}
+use Rattle.net_core.specs.Circuits.{Circuit, IsNewName, output_gate, wire_at}
+use Rattle.net_core.specs.Building.{AddsOutput, Keeps}
+use Rattle.net_core.specs.Circuits.{IsBuilt}
+use Rattle.net_core.specs.Runs.{output_value}
+use Rattle.pbs_base.specs.declared.entry.Entry.{Entry}
+use Rattle.pbs_ast.specs.Trees.{Tree, has_no_scope}
+use Rattle.frag_compose.specs.Composes.{Composes, Follows, FollowsAlways, FollowsRow}
+use Rattle.pbs_controller.specs.Ports.{ports_of, output_names}
+use Rattle.pbs_controller.specs.Outputs.{Shows}
+use Rattle.pbs_controller.specs.Controllers.{IsController, ShowsRow}
+
+-- ---- one output more
+
+abbrev name_of : Output → List ℕ
+name_of o = o.name
+
+pub new_name : (outputs : List Output) (names : List (List ℕ)) (a : ℕ) (name : List ℕ) → AreDifferent names
+    → map name_of outputs ≡ take a names → slice_get names a ≡ Some name → IsNewName outputs name
+new_name outputs names a name different so_far at = record {
+  absent = λ n o there same.
+      let named : slice_get (take a names) n ≡ Some o.name =
+      ap (λ (l : List (List ℕ)). slice_get l n) (sym so_far)
+      ∙ (slice_get-map name_of outputs n ∙ ap (option_map name_of) there) in
+      let below : n < a =
+      (let less = slice_get_within (take a names) n o.name named in omega (arith, length-take a names)) in
+      let within : n < length names = (let less = slice_get_within names a name at in omega arith) in
+      let earlier : slice_get names n ≡ Some name =
+      slice_get-get_or names n name within
+      ∙ ap Some (sym (get_or-take a names n name below)
+      ∙ (get_or_from_slice_get (take a names) n o.name name named ∙ same)) in
+      let again : n ≡ a = different.once n a name earlier at in
+      omega arith;
+}
+
+pub names_more : (old new : Circuit) (names : List (List ℕ)) (a : ℕ) (name : List ℕ) (w : Wire)
+    → AddsOutput old new name w
+    → output_names old ≡ take a names → slice_get names a ≡ Some name → output_names new ≡ take (a + 1) names
+names_more old new names a name w adds so_far at =
+    ap (map name_of) adds.outputs
+    ∙ (map-append name_of old.outputs ((record { name = name; gate = length old.gates }) ∷ [])
+    ∙ (ap (λ l. l ++ name ∷ []) so_far
+    ∙ (ap (λ x. take a names ++ x ∷ []) (sym (get_or_from_slice_get names a name name at))
+    ∙ sym (take_more names a name (slice_get_within names a name at)))))
+
+abbrev nothing : Output
+nothing = record { name = []; gate = 0 }
+
+gate_in_front : (old new : Circuit) (o : Output) (i : ℕ) → new.outputs ≡ old.outputs ++ o ∷ [] → i < length old.outputs
+    → output_gate new i ≡ output_gate old i
+gate_in_front old new o i added less =
+    ap (λ (l : List Output). (get_or l i nothing).gate) added
+    ∙ ap (λ (x : Output). x.gate) (get_or_append_left old.outputs (o ∷ []) nothing i less)
+
+gate_at_end : (old new : Circuit) (o : Output) (a : ℕ) → new.outputs ≡ old.outputs ++ o ∷ [] → length old.outputs ≡ a
+    → output_gate new a ≡ o.gate
+gate_at_end old new o a added count =
+    ap (λ n. output_gate new n) (sym count)
+    ∙ (ap (λ (l : List Output). (get_or l (length old.outputs) nothing).gate) added
+    ∙ ap (λ (x : Output). x.gate) (get_or-append_seam old.outputs o [] nothing))
+
+pub shows_more : (old new : Circuit) (ws : List Wire) (a : ℕ) (name : List ℕ) (w : Wire) → AddsOutput old new name w
+    → Shows old ws a → wire_at ws a ≡ w → Shows new ws (a + 1)
+shows_more old new ws a name w adds shows at =
+    let o : Output = record { name = name; gate = length old.gates } in
+    record {
+      count = omega (arith, ap length adds.outputs, length-append old.outputs (o ∷ []), shows.count);
+      shown = below_more
+          (λ i. (row : Row) → IsRow new.gates row → row.gates (output_gate new i) ≡ value row (wire_at ws i)) a
+          (λ i less row is.
+          ap row.gates (gate_in_front old new o i adds.outputs (omega (arith, shows.count)))
+          ∙ shows.shown i less row (adds.keeps.rows row is))
+          (λ row is.
+          ap row.gates (gate_at_end old new o a adds.outputs shows.count)
+          ∙ (adds.shows row is ∙ ap (value row) (sym at)));
+    }
+
+-- ---- the whole
+
+pub length-ports : (letters : List ℕ) (names : List (List ℕ)) → length (ports_of letters names) ≡ length names
+length-ports letters [] = refl
+length-ports letters (x ∷ names) = ap suc (length-ports letters names)
+
+shows_row : (main : Tree) (m : ℕ) (net : Circuit) (ws : List Wire) (v : List Entry) (rows : ℕ → Row) (k : ℕ)
+    → Shows net ws m → IsRow net.gates (rows k) → FollowsRow net ws main m v rows k → ShowsRow net main m v rows k
+shows_row main m net ws v rows k shows row follows = record {
+  registers = follows.registers;
+  outputs = λ a less. shows.shown a less (rows k) row ∙ follows.fire_wires a less;
+}
+
+-- what was composed, and what outputs were added to it
+pub record Built (main : Tree) (m : ℕ) (empty composed net : Circuit) (ws : List Wire) : Type 0 where
+  pub none : empty.gates ≡ []
+  pub circuit : Composes empty composed main m ws
+  pub runs : (n : Circuit) → Keeps composed n → Follows n ws main m
+  pub scopeless : (n : Circuit) → Keeps composed n → has_no_scope main ≡ true → FollowsAlways n ws main m
+  pub keeps : Keeps composed net
+  pub registers : net.registers ≡ composed.registers
+  pub gates : length net.gates ≡ length composed.gates + m
+  pub shows : Shows net ws m
+
+pub is_controller : (inputs actions : List (List ℕ)) (main : Tree) (empty composed net : Circuit) (ws : List Wire)
+    → Built main (length actions) empty composed net ws → IsBuilt net.gates
+    → net.inputs ≡ ports_of (codes "i_") inputs → output_names net ≡ ports_of (codes "a_") actions
+    → IsController inputs actions main net
+is_controller inputs actions main empty composed net ws built plain in_ports out_ports = record {
+  inputs_named = in_ports;
+  outputs_named = out_ports;
+  registers = ap length built.registers ∙ built.circuit.places;
+  few = omega (arith, built.gates, built.circuit.few, ap length built.none);
+  plain = plain;
+  shows = λ v rows run k le apart.
+      shows_row main (length actions) net ws v rows k built.shows (run.each k le)
+      ((built.runs net built.keeps).at_row v rows run k le apart);
+  shows_always = λ none v rows run k le.
+      shows_row main (length actions) net ws v rows k built.shows (run.each k le)
+      ((built.scopeless net built.keeps none).at_row v rows run k le);
+}

@@ -1,0 +1,34 @@
+-- The controller of a tree.
+use Rattle.std.specs.Prelude.{◌≡◌, ℕ, ◌+◌, ◌*◌, ◌<◌, ◌≤◌, true, List, length, codes}
+use Rattle.pbs_base.specs.declared.entry.Entry.{Entry}
+use Rattle.pbs_base.specs.Entries.{since}
+use Rattle.pbs_ast.specs.Trees.{Tree, has_no_scope}
+use Rattle.pbs_ast.specs.Sound.{node_count, place_count}
+use Rattle.pbs_derive.specs.Derivations.{stands, fires, NoOverlapBelow}
+use Rattle.net_core.specs.Rows.{Row}
+use Rattle.net_core.specs.Circuits.{Circuit, IsBuilt}
+use Rattle.net_core.specs.Runs.{IsRun, next_of, output_value}
+use Rattle.pbs_controller.specs.Ports.{ports_of, output_names}
+
+-- over the vectors since the last reset: after row k register p tells whether place p stands, and in row k output a
+-- tells whether action a fires
+pub record ShowsRow (net : Circuit) (main : Tree) (m : ℕ) (v : List Entry) (rows : ℕ → Row) (k : ℕ) : Type 0 where
+  pub registers : (p : ℕ) → p < place_count main
+      → next_of net (rows k) p ≡ stands main (since v k) 0 (length (since v k)) p
+  pub outputs : (a : ℕ) → a < m
+      → output_value net (rows k) a ≡ fires main (since v k) 0 (length (since v k)) a
+
+pub record IsController (inputs actions : List (List ℕ)) (main : Tree) (net : Circuit) : Type 0 where
+  -- a port for each input and for each action, in declared order
+  pub inputs_named : net.inputs ≡ ports_of (codes "i_") inputs
+  pub outputs_named : output_names net ≡ ports_of (codes "a_") actions
+  -- a register for each place, and at most 20 gates for each node of the tree and its terms and one for each action
+  pub registers : length net.registers ≡ place_count main
+  pub few : length net.gates ≤ 20 * node_count main + length actions
+  pub plain : IsBuilt net.gates
+  -- in every run from reset, where no scope was begun again while it was live since the last reset
+  pub shows : (v : List Entry) (rows : ℕ → Row) → IsRun net v rows → (k : ℕ) → k ≤ length v
+      → NoOverlapBelow main (since v k) (length (since v k)) → ShowsRow net main (length actions) v rows k
+  -- in every run from reset
+  pub shows_always : has_no_scope main ≡ true → (v : List Entry) (rows : ℕ → Row) → IsRun net v rows → (k : ℕ)
+      → k ≤ length v → ShowsRow net main (length actions) v rows k
