@@ -9,3 +9,5 @@ pub mod Places
 pub mod LastPlaces
 pub mod Grids
 pub mod Steps
+pub mod Blanks
+pub mod Turns

@@ -4,7 +4,26 @@ use Rattle.std.proofs.lemmas.Bool.{and_parts, and_from, eqb-true, eq-eqb, cases_
 use Rattle.pbs_ast.specs.Trees.{Spot, Tree, Empty, Terminal, Action, Seq, Choice, Star, Hold, Scope}
 use Rattle.pbs_derive.specs.Derivations.{covers, alive, trips, repeats}
 use Rattle.pbs_derive.proofs.Positions.{split_to, split_from, or_elim, after_to, first_to, first_from, none_to, none_from, all_hold_to, all_hold_from}
-use Rattle.pbs_derive.proofs.Repeats.{Repeats, repeats_first, repeats_none, repeats_from}
+use Rattle.pbs_derive.proofs.Repeats.{Repeats, repeats_first, repeats_none, repeats_order, repeats_from}
+
+-- what is covered doesn't end before it begins
+pub covers_order : (e : Tree) (v : List ℕ) (i j : ℕ) → covers e v i j ≡ true → i ≤ j
+covers_order (Empty spot) v i j h = let q : i ≡ j = eqb-true i j h in omega arith
+covers_order (Action spot a) v i j h = let q : i ≡ j = eqb-true i j h in omega arith
+covers_order (Terminal spot p t) v i j h =
+    let q : j ≡ i + 1 = eqb-true j (i + 1) (and_parts _ _ h).0 in omega arith
+covers_order (Seq spot e f) v i j h =
+    let w = split_to i j (covers e v i) (λ m. covers f v m j) h in
+    let low : i ≤ w.0 = w.1 in let high : w.0 ≤ j = w.2 in omega arith
+covers_order (Choice spot e f) v i j h = or_elim _ _ h (covers_order e v i j) (covers_order f v i j)
+covers_order (Star spot e) v i j h = repeats_order (covers e v) (j - i) i j h
+covers_order (Hold spot t e) v i j h = covers_order e v i j (and_parts _ _ h).0
+covers_order (Scope spot s e x h) v i j c =
+    or_elim _ _ c
+    (λ body. covers_order e v i j (and_parts _ _ body).1)
+    (λ after.
+    let w = first_to i j (trips e x v i) (λ m. covers h v m j) after in
+    let low : i < w.0 = w.1 in let high : w.0 ≤ j = w.2 in omega arith)
 
 -- where stretches that follow one another lead past k, the one that k lies in is alive at k
 pub star_alive : (e : Tree) (v : List ℕ) → ((i j k : ℕ) → covers e v i j ≡ true → i ≤ k → k < j → alive e v i k ≡ true)

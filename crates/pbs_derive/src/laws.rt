@@ -3,6 +3,8 @@
 ghost use Rattle.std.specs.Prelude.{◌≡◌, ◌<◌, ◌≤◌, ◌↔◌, ◌+◌, ◌-◌, ◌&&◌, ◌||◌, Bool, IsTrue, List, nat_eq, slice_index, true, ℕ};
 ghost use Rattle.pbs_ast.specs.Trees.{Spot, Star, Tree, fits, has_no_scope, has_terminal, is_last, nullable};
 ghost use Rattle.pbs_ast.specs.Sound.{places_from, scopes_right};
+ghost use Rattle.pbs_ast.specs.Repeats.{blank, filled, repeated};
+ghost use Rattle.pbs_derive.specs.Turns.{CoverInTurn};
 ghost use Rattle.pbs_derive.specs.Derivations.{IsAbort, NoOverlapBelow, SameTo, alive, covers, fires, first_after, live, some_after, stands, trips};
 
 /// What is alive at a position was alive at each position before it.
@@ -65,4 +67,12 @@ pub fn star_turns()
     ensures { (spot : Spot) (e : Tree) (v : List ℕ) (i j : ℕ)
         → covers (Star spot e) v i j
         ≡ (nat_eq i j || some_after i j (λ m. covers e v i m && covers (Star spot e) v m j)) }
+{}
+
+/// The tree of a bounded repetition, at least m and at most n copies of e, spans and numbers aside, covers a stretch
+/// exactly where some number of copies of e from m to n cover it, one after another.
+pub fn bounded_repetition()
+    ensures { (tree e : Tree) (v : List ℕ) (m n i j : ℕ) → m ≤ n → 1 ≤ n
+        → blank tree ≡ filled (repeated m n) (blank e)
+        → (covers tree v i j ≡ true) ↔ ((c : ℕ) × (m ≤ c) × (c ≤ n) × CoverInTurn e v c i j) }
 {}
