@@ -1,5 +1,6 @@
 -- Productions that are settled use each other in no circle.
-use Rattle.std.proofs.Common.{◌≡◌, inl, inr, ℕ, ◌==◌, Bool, true, false, ◌&&◌, ◌++◌, List, [], ◌∷◌, Option, Some, None, refl, sym, ap, subst, ◌∙◌}
+use Rattle.std.proofs.Common.{◌≡◌, inl, inr, ℕ, ◌==◌, Bool, true, false, ◌&&◌, ◌++◌, List, [], ◌∷◌, Option, Some, None}
+use Rattle.std.proofs.Common.{refl, sym, ap, subst, ◌∙◌}
 use Rattle.std.specs.Prelude.{Contains, if◌then◌else◌}
 use Rattle.std.specs.List.{list_all}
 use Rattle.std.specs.Option.{is_some}
@@ -17,48 +18,61 @@ use Rattle.pbs_check.specs.Facts.{known_of, expr_facts}
 use Rattle.pbs_check.specs.Recursion.{UsesAt, Reaches, Arrived, ByUse, Rule8, Recursive}
 use Rattle.pbs_check.specs.Truth.{IsSettled, Settled, AreFirst, Settles, IsKnown, AreKnown}
 use Rattle.pbs_check.specs.declared.named.Named.{Named}
-use Rattle.pbs_check.specs.Declaring.{named, declared_inputs, declared_actions, declared_levels, declared_prods, Twice, First, Further, Rule5, DeclaredTwice}
+use Rattle.pbs_check.specs.Declaring.{named, declared_inputs, declared_actions, declared_levels, declared_prods, Twice}
+use Rattle.pbs_check.specs.Declaring.{First, Further, Rule5, DeclaredTwice}
 use Rattle.pbs_check.specs.Least.{later_span}
 use Rattle.pbs_check.proofs.LeastLemmas.{first_item, later_item, no_item, item_cases}
 use Rattle.pbs_check.proofs.FactTruth.{facts_are}
 use Rattle.pbs_check.proofs.SettleLemmas.{Known, parts_known, use_known}
 
-reach_on : {prods : List Prod} {to from next : List ℕ} {body : Expr} {span : Span} → Reaches prods to from → body_of prods to ≡ Some body → UsesAt body next span → Reaches prods next from
+pub reach_on : {prods : List Prod} {to from next : List ℕ} {body : Expr} {span : Span} → Reaches prods to from
+    → body_of prods to ≡ Some body → UsesAt body next span → Reaches prods next from
 reach_on Arrived is uses = ByUse is uses Arrived
 reach_on (ByUse here used more) is uses = ByUse here used (reach_on more is uses)
 
-same_body : (prods : List Prod) (name : List ℕ) (b d : Expr) → body_of prods name ≡ Some b → body_of prods name ≡ Some d → d ≡ b
+same_body : (prods : List Prod) (name : List ℕ) (b d : Expr) → body_of prods name ≡ Some b → body_of prods name ≡ Some d
+    → d ≡ b
 same_body prods name b d p q = let h : Some d ≡ Some b = sym q ∙ p in cc
 
-loop_free : (prods : List Prod) (n : List ℕ) → IsSettled prods n → (body : Expr) (via : List ℕ) (span : Span) → body_of prods n ≡ Some body → UsesAt body via span → Reaches prods n via → ⊥
+pub loop_free : (prods : List Prod) (n : List ℕ) → IsSettled prods n → (body : Expr) (via : List ℕ) (span : Span)
+    → body_of prods n ≡ Some body → UsesAt body via span → Reaches prods n via → ⊥
 loop_free prods n (Settled {body = b} is below) body via span here uses Arrived =
     let P : Expr → Type 0 = λ e. UsesAt e n span in
     loop_free prods n (below n span (subst P (same_body prods n b body is here) uses)) body n span here uses Arrived
-loop_free prods n (Settled {body = b} is below) body via span here uses (ByUse {via = w} {body = d} {span = t} there used more) =
+loop_free prods n (Settled {body = b} is below) body via span here uses
+    (ByUse {via = w} {body = d} {span = t} there used more) =
     let P : Expr → Type 0 = λ e. UsesAt e via span in
-    loop_free prods via (below via span (subst P (same_body prods n b body is here) uses)) d w t there used (reach_on more here uses)
+    loop_free prods via (below via span (subst P (same_body prods n b body is here) uses)) d w t there used
+    (reach_on more here uses)
 
 -- where every production is known, none uses itself by others
-pub no_recursion : (spec : Spec) (known : List ℕ → Option Facts) → AreFirst spec.prods → Settles spec.prods known → AreKnown spec known → (span : Span) → Rule8 spec span → ⊥
+pub no_recursion : (spec : Spec) (known : List ℕ → Option Facts) → AreFirst spec.prods → Settles spec.prods known
+    → AreKnown spec known → (span : Span) → Rule8 spec span → ⊥
 no_recursion spec known are settles all span rule = broken rule
   where
     settled : (p : Prod) → Contains spec.prods p → IsSettled spec.prods p.name
-    settled p here = Settled (are.first p here) (λ via at uses. let k = use_known known p.body via at (all.bodies p here) uses in settles.settled via k.0 k.1)
+    settled p here = Settled (are.first p here) (λ via at uses. let k = use_known known p.body via at
+        (all.bodies p here) uses in settles.settled via k.0 k.1)
 
     broken : {s : Span} → Rule8 spec s → ⊥
-    broken (Recursive {p = p} {name = name} {span = at} here uses reaches) = loop_free spec.prods p.name (settled p here) p.body name at (are.first p here) uses reaches
+    broken (Recursive {p = p} {name = name} {span = at} here uses reaches) = loop_free spec.prods p.name
+        (settled p here) p.body name at (are.first p here) uses reaches
 
 -- and every expression of the specification is known
-stand_known : (spec : Spec) (known : List ℕ → Option Facts) → AreKnown spec known → (e : Expr) → Stands spec e → Known known e
+stand_known : (spec : Spec) (known : List ℕ → Option Facts) → AreKnown spec known → (e : Expr) → Stands spec e
+    → Known known e
 stand_known spec known all e OfMain = all.main
 stand_known spec known all e (OfProd {p = p} here) = all.bodies p here
-stand_known spec known all e (OfPart {e = d} stands part) = let k = stand_known spec known all d stands in parts_known known d.kind k.0 k.1 e part
+stand_known spec known all e (OfPart {e = d} stands part) = let k = stand_known spec known all d stands in
+    parts_known known d.kind k.0 k.1 e part
 
-pub is_known : (spec : Spec) (tables : Tables) → Settles spec.prods (known_of tables.known) → AreKnown spec (known_of tables.known) → IsKnown spec tables
+pub is_known : (spec : Spec) (tables : Tables) → Settles spec.prods (known_of tables.known)
+    → AreKnown spec (known_of tables.known) → IsKnown spec tables
 is_known spec tables settles all = record {
   facts = λ e stands. (stand_known spec (known_of tables.known) all e stands).0;
   known = λ e stands. (stand_known spec (known_of tables.known) all e stands).1;
-  true_of = λ e stands. let k = stand_known spec (known_of tables.known) all e stands in facts_are spec.prods (known_of tables.known) settles.knows e k.0 k.1;
+  true_of = λ e stands. let k = stand_known spec (known_of tables.known) all e stands in
+      facts_are spec.prods (known_of tables.known) settles.knows e k.0 k.1;
 }
 
 some_of : (o : Option Facts) → is_some o ≡ true → (f : Facts) × (o ≡ Some f)
@@ -69,15 +83,27 @@ both_true : (a b : Bool) → (a && b) ≡ true → (a ≡ true) × (b ≡ true)
 both_true true b h = (refl, h)
 both_true false b h = cc
 
-all_some : (known : List ℕ → Option Facts) (ps : List Prod) → list_all (λ (p : Prod). is_some (expr_facts known p.body)) ps ≡ true → (p : Prod) → Contains ps p → (f : Facts) × (expr_facts known p.body ≡ Some f)
+all_some : (known : List ℕ → Option Facts) (ps : List Prod) → list_all (λ (p : Prod). is_some (expr_facts known p.body))
+    ps ≡ true → (p : Prod) → Contains ps p → (f : Facts) × (expr_facts known p.body ≡ Some f)
 all_some known [] all p here = absurd (no_item here)
 all_some known (q ∷ ps) all p here =
-    let two = both_true (is_some (expr_facts known q.body)) (list_all (λ (p : Prod). is_some (expr_facts known p.body)) ps) all in
+    let two = both_true (is_some (expr_facts known q.body)) (list_all (λ (p : Prod). is_some (expr_facts known p.body))
+    ps) all in
     let P : Prod → Type 0 = λ z. (f : Facts) × (expr_facts known z.body ≡ Some f) in
-    elim (item_cases q ps here) [ inl same ↦ subst P same (some_of (expr_facts known q.body) two.0) | inr more ↦ all_some known ps two.1 p more ]
+    elim (item_cases q ps here) [
+      | inl same ↦ subst P same (some_of (expr_facts known q.body) two.0)
+      | inr more ↦
+          all_some known ps two.1 p more
+    ]
 
-pub whole_known : (spec : Spec) (known : List ℕ → Option Facts) → list_all (λ (p : Prod). is_some (expr_facts known p.body)) spec.prods ≡ true → is_some (expr_facts known spec.main) ≡ true → AreKnown spec known
-whole_known spec known all main = record { bodies = all_some known spec.prods all; main = some_of (expr_facts known spec.main) main }
+pub whole_known : (spec : Spec) (known : List ℕ → Option Facts)
+    → list_all (λ (p : Prod). is_some (expr_facts known p.body)) spec.prods ≡ true
+    → is_some (expr_facts known spec.main) ≡ true → AreKnown spec known
+whole_known spec known all main = record {
+  bodies = all_some known spec.prods all;
+  main = some_of
+      (expr_facts known spec.main) main;
+}
 
 -- where no name is declared twice, each production is the first of its name
 twice_right : (xs ys : List Named) (s : Span) → Twice ys s → Twice (xs ++ ys) s
@@ -87,11 +113,13 @@ twice_right (x ∷ xs) ys s t = Further (twice_right xs ys s t)
 prod_named : (ps : List Prod) (p : Prod) → Contains ps p → Contains (declared_prods ps) (named p.span p.name)
 prod_named [] p here = absurd (no_item here)
 prod_named (q ∷ ps) p here = elim (item_cases q ps here) [
-  | inl same ↦ let P : Prod → Type 0 = λ z. Contains (declared_prods (q ∷ ps)) (named z.span z.name) in subst P same (first_item (named q.span q.name) (declared_prods ps))
+  | inl same ↦ let P : Prod → Type 0 = λ z. Contains (declared_prods (q ∷ ps)) (named z.span z.name) in
+      subst P same (first_item (named q.span q.name) (declared_prods ps))
   | inr more ↦ later_item (named q.span q.name) (declared_prods ps) (prod_named ps p more)
 ]
 
-first_of_prods : (ps : List Prod) → ((s : Span) → Twice (declared_prods ps) s → ⊥) → (p : Prod) → Contains ps p → body_of ps p.name ≡ Some p.body
+first_of_prods : (ps : List Prod) → ((s : Span) → Twice (declared_prods ps) s → ⊥) → (p : Prod) → Contains ps p
+    → body_of ps p.name ≡ Some p.body
 first_of_prods [] none p here = absurd (no_item here)
 first_of_prods (q ∷ ps) none p here = elim (item_cases q ps here) [
   | inl same ↦ at_head same
@@ -102,15 +130,20 @@ first_of_prods (q ∷ ps) none p here = elim (item_cases q ps here) [
     itself = nat_list_eq_equiv.refl q.name
 
     at_head : q ≡ p → body_of (q ∷ ps) p.name ≡ Some p.body
-    at_head same = let P : Prod → Type 0 = λ z. body_of (q ∷ ps) z.name ≡ Some z.body in subst P same (ap (λ b. if b then Some q.body else body_of ps q.name) itself)
+    at_head same = let P : Prod → Type 0 = λ z. body_of (q ∷ ps) z.name ≡ Some z.body in
+        subst P same (ap (λ b. if b then Some q.body else body_of ps q.name) itself)
 
-    further : (b : Bool) → pointwise ◌==◌ q.name p.name ≡ b → Contains ps p → body_of ps p.name ≡ Some p.body → (if b then Some q.body else body_of ps p.name) ≡ Some p.body
+    further : (b : Bool) → pointwise ◌==◌ q.name p.name ≡ b → Contains ps p → body_of ps p.name ≡ Some p.body
+        → (if b then Some q.body else body_of ps p.name) ≡ Some p.body
     further true same more rest =
         let e : p.name ≡ q.name = sym (same_text q.name p.name (sym same)) in
-        absurd (none (later_span p.span q.span) (First {x = named q.span q.name} {y = named p.span p.name} (prod_named ps p more) e))
+        absurd (none (later_span p.span q.span) (First {x = named q.span q.name} {y = named p.span p.name}
+        (prod_named ps p more) e))
     further false other more rest = rest
 
 pub are_first : (spec : Spec) → ((s : Span) → Rule5 spec s → ⊥) → AreFirst spec.prods
 are_first spec none = record {
-  first = first_of_prods spec.prods (λ s t. none s (DeclaredTwice (twice_right (declared_inputs spec.inputs) _ s (twice_right (declared_actions spec.actions) _ s (twice_right (declared_levels spec.levels) (declared_prods spec.prods) s t)))));
+  first = first_of_prods spec.prods (λ s t. none s (DeclaredTwice
+      (twice_right (declared_inputs spec.inputs) _ s (twice_right (declared_actions spec.actions) _ s
+      (twice_right (declared_levels spec.levels) (declared_prods spec.prods) s t)))));
 }

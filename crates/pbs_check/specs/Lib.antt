@@ -2,7 +2,9 @@ pub mod Checked
 pub mod Declaring
 pub mod Facts
 pub mod Least
+pub mod Links
 pub mod Recursion
+pub mod Searching
 pub mod Stages
 pub mod Truth
 pub mod Twices

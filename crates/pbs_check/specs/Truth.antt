@@ -1,5 +1,7 @@
 -- Facts that are true of what they are known of, and productions that are no part of a recursion.
-use Rattle.std.specs.Prelude.{◌≡◌, ◌⊎◌, ℕ, Bool, true, false, List, Option, Some, Contains}
+use Rattle.std.specs.Prelude.{◌≡◌, ◌⊎◌, ℕ, Bool, true, false, not, List, Option, Some, None, Contains}
+use Rattle.std.specs.List.{count_by}
+use Rattle.std.specs.Option.{is_some}
 use Rattle.pbs_base.specs.declared.refusal.Span.{Span}
 use Rattle.pbs_ast.specs.declared.syntax.Expr.{Expr}
 use Rattle.pbs_ast.specs.declared.syntax.Prod.{Prod}
@@ -52,3 +54,11 @@ pub record IsKnown (spec : Spec) (tables : Tables) : Type 0 where
 pub record AreKnown (spec : Spec) (known : List ℕ → Option Facts) : Type 0 where
   pub bodies : (p : Prod) → Contains spec.prods p → (f : Facts) × (expr_facts known p.body ≡ Some f)
   pub main : (f : Facts) × (expr_facts known spec.main ≡ Some f)
+
+-- nothing more can be learnt
+pub record IsStuck (prods : List Prod) (known : List ℕ → Option Facts) : Type 0 where
+  pub stuck : (p : Prod) → Contains prods p → known p.name ≡ None → expr_facts known p.body ≡ None
+
+-- how many productions there are of which nothing is known
+abbrev pub unknown_count : List Prod → (List ℕ → Option Facts) → ℕ
+unknown_count prods known = count_by (λ (p : Prod). not (is_some (known p.name))) prods

@@ -1,4 +1,7 @@
 // How the checks fail.
+ghost use Rattle.std.specs.Prelude.{◌≡◌};
+ghost use Rattle.pbs_check.specs.declared.failure.Check.TheVariants as variants;
+
 use pbs_base::Refusal;
 use thiserror::Error;
 
@@ -10,4 +13,12 @@ pub enum Check {
     Refused(Refusal),
     #[error("no memory was found")]
     Memory,
+}
+
+impl From<pbs_base::Memory> for Check {
+    ghost from_gives = { λ _ e. e ≡ variants.Memory };
+
+    fn from(_error: pbs_base::Memory) -> Check {
+        Check::Memory
+    }
 }

@@ -4,7 +4,7 @@ ghost use Rattle.pbs_check.specs.Least.{span_le, later_span, earlier_span, least
 
 use pbs_base::Span;
 
-fn is_before(first: Span, second: Span) -> bool
+pub fn is_before(first: Span, second: Span) -> bool
     ensures { result ≡ span_le first second }
 {
     first.start < second.start || (first.start == second.start && first.end <= second.end)

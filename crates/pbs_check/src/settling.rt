@@ -1,12 +1,11 @@
 // Productions one after another, each once all is known of those that it uses.
-ghost use Rattle.std.specs.Prelude.{◌≡◌, OnOk, IfOk, Contains, IsTrue};
-ghost use Rattle.std.specs.List.{list_all};
+ghost use Rattle.std.specs.Prelude.{◌≡◌, ◌<◌, true, false, not, map, None, OnOk, IfOk, Contains};
 ghost use Rattle.std.specs.Option.{is_some};
 ghost use Rattle.pbs_check.specs.Facts.{known_of, expr_facts};
-ghost use Rattle.pbs_check.specs.Truth.{AreFirst, AreKnown, Settles};
+ghost use Rattle.pbs_check.specs.Truth.{AreFirst, IsStuck, Settles, unknown_count};
 
 use crate::facts::{Known, expr_facts};
-use pbs_ast::{Prod, Prods, Spec};
+use pbs_ast::{Prod, Prods};
 use pbs_base::{Memory, Word};
 use std::alloc::Global;
 
@@ -15,7 +14,12 @@ fn learn(alloc: Global, prods: &Prods, prod: &Prod, known: &mut Known) -> Result
     requires first { AreFirst prods.now }
     requires there { Contains prods.now prod.now }
     requires settles { Settles prods.now (known_of known.old) }
-    ensures { OnOk result (Settles prods.now (known_of known.new)) }
+    ensures settles { OnOk result (Settles prods.now (known_of known.new)) }
+    ensures fewer { IfOk result (λ learnt. learnt ≡ true
+        → unknown_count prods.now (known_of known.new) < unknown_count prods.now (known_of known.old)) }
+    ensures same { IfOk result (λ learnt. learnt ≡ false → known.new ≡ known.old) }
+    ensures stuck { IfOk result (λ learnt. learnt ≡ false → known_of known.old prod.now.name ≡ None
+        → expr_facts (known_of known.old) prod.now.body ≡ None) }
 {
     if known.facts.contains_key(&prod.name) {
         return Ok(false);
@@ -30,11 +34,14 @@ fn learn(alloc: Global, prods: &Prods, prod: &Prod, known: &mut Known) -> Result
     }
 }
 
-/// Goes over all productions once.
+/// Goes over all productions once. True where something was learnt.
 fn learn_all(alloc: Global, prods: &Prods, known: &mut Known) -> Result<bool, Memory>
     requires first { AreFirst prods.now }
     requires settles { Settles prods.now (known_of known.old) }
-    ensures { OnOk result (Settles prods.now (known_of known.new)) }
+    ensures settles { OnOk result (Settles prods.now (known_of known.new)) }
+    ensures fewer { IfOk result (λ learnt. learnt ≡ true
+        → unknown_count prods.now (known_of known.new) < unknown_count prods.now (known_of known.old)) }
+    ensures stuck { IfOk result (λ learnt. learnt ≡ false → IsStuck prods.now (known_of known.new)) }
 {
     let mut learnt = false;
     for prod in prods.as_slice() {
@@ -45,32 +52,52 @@ fn learn_all(alloc: Global, prods: &Prods, known: &mut Known) -> Result<bool, Me
     Ok(learnt)
 }
 
-/// What can be learnt of productions.
-pub fn settle(alloc: Global, prods: &Prods) -> Result<Known, Memory>
+fn learn_at(alloc: Global, prods: &Prods, number: usize, known: &mut Known) -> Result<(), Memory>
+    requires first { AreFirst prods.now }
+    requires settles { Settles prods.now (known_of known.old) }
+    ensures { OnOk result (Settles prods.now (known_of known.new)) }
+{
+    if let Some(prod) = prods.get(number) {
+        learn(alloc, prods, prod, known)?;
+    }
+    Ok(())
+}
+
+fn learn_in_order(
+    alloc: Global,
+    prods: &Prods,
+    order: &[usize],
+    known: &mut Known,
+) -> Result<(), Memory>
+    requires first { AreFirst prods.now }
+    requires settles { Settles prods.now (known_of known.old) }
+    ensures { OnOk result (Settles prods.now (known_of known.new)) }
+{
+    for number in order {
+        learn_at(alloc, prods, *number, known)?;
+    }
+    Ok(())
+}
+
+/// What can be learnt of productions. Where the order is right, one more round over all of them ends it.
+pub fn settle(alloc: Global, prods: &Prods, order: &[usize]) -> Result<Known, Memory>
     requires { AreFirst prods.now }
-    ensures { IfOk result (λ known. Settles prods.now (known_of known)) }
+    ensures settles { IfOk result (λ known. Settles prods.now (known_of known)) }
+    ensures stuck { IfOk result (λ known. IsStuck prods.now (known_of known)) }
 {
     let mut known = Known::new(alloc);
-    for _round in 0..prods.len() {
-        if !learn_all(alloc, prods, &mut known)? {
-            return Ok(known);
-        }
-    }
+    learn_in_order(alloc, prods, order, &mut known)?;
+    while learn_all(alloc, prods, &mut known)? {}
     Ok(known)
 }
 
-fn bodies_known(known: &Known, prods: &Prods) -> bool
-    ensures { result ≡ list_all (λ p. is_some (expr_facts (known_of known.now) p.body)) prods.now }
+/// Marks the productions of which nothing is known.
+pub fn unknown_prods(alloc: Global, known: &Known, prods: &Prods) -> Result<Vec<bool>, Memory>
+    ensures { IfOk result (λ marks. marks.items ≡ map (λ p. not (is_some (known_of known.now p.name))) prods.now) }
 {
-    prods
-        .as_slice()
-        .iter()
-        .all(|prod| expr_facts(known, &prod.body).is_some())
-}
-
-/// Whether enough is known of every production and of main.
-pub fn are_known(known: &Known, spec: &Spec) -> bool
-    ensures { IsTrue result → AreKnown spec.now (known_of known.now) }
-{
-    bodies_known(known, &spec.prods) && expr_facts(known, &spec.main).is_some()
+    let mut marks = Vec::new(alloc);
+    for prod in prods.as_slice() {
+        marks.push(!known.facts.contains_key(&prod.name))?;
+    }
+    Ok(marks)
 }

@@ -20,12 +20,12 @@ use Rattle.pbs_expand.specs.declared.terms.Connective.TheVariants.{AndOf, OrOf}
 use Rattle.pbs_expand.specs.Counting.{sum_of, fits, name_cost, node_cost, hold_cost, scope_cost}
 use Rattle.pbs_expand.specs.Parts as parts
 use Rattle.pbs_expand.specs.Parts.{Part, Shape, shape}
-use Rattle.pbs_expand.specs.Walks.{Walk, Beyond, Empty, Terminal, Action, Name, Star, Hold, Pair, Scope, walk, walked, action_walk}
+use Rattle.pbs_expand.specs.Walks.{Walk, Beyond, Empty, Terminal, Action, Name, Star, Hold, Pair, Scope, walk, walked, action_walk, complete}
 use Rattle.pbs_expand.specs.Written.{joined, both, empty_term, written, written_row, named_term, literals, equal_term}
 use Rattle.pbs_expand.specs.Visits.{Visit, visits, after_visits, first_over, numbered}
 use Rattle.pbs_rules.proofs.NameLemmas.{number_within, bus_within}
 use Rattle.pbs_expand.proofs.VisitLaws.{or_else, first_over-append}
-use Rattle.pbs_expand.proofs.Limits.{complete, both_true, true_both}
+use Rattle.pbs_expand.proofs.Limits.{both_true, true_both}
 
 neither : (a b : Option Span) → or_else a b ≡ None → (a ≡ None) × (b ≡ None)
 neither None b h = (refl, h)

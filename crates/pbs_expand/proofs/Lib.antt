@@ -7,6 +7,7 @@ pub mod PartForms
 pub mod PartRules
 pub mod PartWords
 pub mod ProperTrees
+pub mod Repetitions
 pub mod Rows
 pub mod Strips
 pub mod TermRows

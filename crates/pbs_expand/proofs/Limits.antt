@@ -5,21 +5,9 @@ use Rattle.pbs_ast.specs.Sound.{node_count, visit_count, place_count, scope_coun
 use Rattle.pbs_expand.specs.declared.parts.Pairing.TheVariants.{Sequence, Choice}
 use Rattle.pbs_expand.specs.declared.build.Counters.{Counters}
 use Rattle.pbs_expand.specs.Counting.{sum_of, name_cost, node_cost, hold_cost, scope_cost}
-use Rattle.pbs_expand.specs.Walks.{Walk, Beyond, Empty, Terminal, Action, Name, Star, Hold, Pair, Scope}
+use Rattle.pbs_expand.specs.Walks.{Walk, Beyond, Empty, Terminal, Action, Name, Star, Hold, Pair, Scope, complete}
 use Rattle.pbs_expand.specs.Visits.{visits, after_visits, numbered}
 use Rattle.pbs_expand.proofs.VisitLaws.{after_visits-append}
-
--- no visit is too deep
-abbrev pub complete : Walk → Bool
-complete (Beyond span) = false
-complete (Empty span) = true
-complete (Terminal span t) = true
-complete (Action span a) = true
-complete (Name span w) = complete w
-complete (Star span w) = complete w
-complete (Hold span b w) = complete w
-complete (Pair span by v w) = complete v && complete w
-complete (Scope span v w x) = complete v && (complete w && complete x)
 
 pub both_true : (a b : Bool) → (a && b) ≡ true → (a ≡ true) × (b ≡ true)
 both_true true b h = (refl, h)

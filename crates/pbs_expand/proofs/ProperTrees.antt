@@ -10,7 +10,7 @@ use Rattle.pbs_expand.specs.declared.parts.Pairing.TheVariants.{Sequence, Choice
 use Rattle.pbs_expand.specs.declared.build.Counters.{Counters}
 use Rattle.pbs_expand.specs.Counting.{sum_of, name_cost, node_cost, hold_cost, scope_cost}
 use Rattle.pbs_expand.specs.Parts.{Part, Shape, Whole, Empty, Terminal, Action, Name, Star, Hold, Pair, Scope, shape}
-use Rattle.pbs_expand.specs.Walks.{Walk, walk, walked, action_walk}
+use Rattle.pbs_expand.specs.Walks.{Walk, walk, walked, action_walk, complete}
 use Rattle.pbs_expand.specs.Written.{written}
 use Rattle.pbs_expand.specs.Visits.{visits, after_visits, numbered}
 use Rattle.pbs_expand.specs.Expanded.{nothing_yet, main_walk, expanded, over_limit}
@@ -19,7 +19,7 @@ use Rattle.pbs_rules.specs.Forms.{OfMain}
 use Rattle.pbs_expand.proofs.PartWords.{PartMay, ShapeMay, PartBusy, ShapeBusy, PartHas, ShapeHas, PartStands, ShapeIsRight}
 use Rattle.pbs_expand.proofs.PartForms.{may_part, busy_part}
 use Rattle.pbs_expand.proofs.PartRules.{has_part, right_part}
-use Rattle.pbs_expand.proofs.Limits.{complete, both_true, true_both}
+use Rattle.pbs_expand.proofs.Limits.{both_true, true_both}
 use Rattle.pbs_expand.proofs.Counted.{none_over}
 
 either_true : (a b : Bool) → (a || b) ≡ true → (a ≡ true) ⊎ (b ≡ true)

@@ -6,7 +6,7 @@ use Rattle.pbs_base.specs.declared.refusal.Span.{Span}
 use Rattle.pbs_ast.specs.declared.syntax.Expr.{Expr}
 use Rattle.pbs_ast.specs.declared.syntax.Kind as kind
 use Rattle.pbs_ast.specs.declared.syntax.Kind.{Row_of-Expr, end_of-Expr, more_of-Expr, items-the_row-Expr}
-use Rattle.pbs_rules.specs.Forms.{Seq, Choice, Repeat, form, expr_of}
+use Rattle.pbs_rules.specs.Forms.{Seq, Choice, Repeat, form, form_of, expr_of}
 use Rattle.pbs_expand.specs.Parts.{stripped, stripped_from, stripped_row}
 
 -- d is e, or is so for the one part of which e is made
@@ -60,3 +60,18 @@ abbrev mutual
 
 pub only : (e : Expr) → IsOnly (stripped e) e
 only e = only_from e.span e.kind
+
+-- a bounded repetition is itself, or for one copy the copy
+strips_from : (span : Span) (k : kind.Kind) (body : Expr) (m n : ℕ) → form_of k ≡ Repeat body m n
+    → stripped_from span k ≡ (if nat_eq m 1 then (if nat_eq n 1 then stripped body else expr_of span k)
+    else expr_of span k)
+strips_from span (kind.Repeat' p s e a b) body m n is =
+    let x : expr_of s e ≡ body = cc in let y : a ≡ m = cc in let z : b ≡ n = cc in
+    let all = expr_of span (kind.Repeat' p s e a b) in
+    let kept : Expr → ℕ → ℕ → Expr = λ t j k. if nat_eq j 1 then (if nat_eq k 1 then stripped t else all) else all in
+    ap (λ t. kept t a b) x ∙ ap (λ j. kept body j b) y ∙ ap (kept body m) z
+strips_from span k body m n is = cc
+
+pub repeat_strips : (e body : Expr) (m n : ℕ) → form e ≡ Repeat body m n
+    → stripped e ≡ (if nat_eq m 1 then (if nat_eq n 1 then stripped body else e) else e)
+repeat_strips e = strips_from e.span e.kind

@@ -1,5 +1,5 @@
 -- The visits of an expansion, as a tree.
-use Rattle.std.specs.Prelude.{ℕ, zero, suc, Option, Some, None}
+use Rattle.std.specs.Prelude.{ℕ, zero, suc, Bool, true, false, ◌&&◌, Option, Some, None}
 use Rattle.pbs_base.specs.declared.refusal.Span.{Span}
 use Rattle.bool_terms.specs.Terms.{Term}
 use Rattle.pbs_ast.specs.declared.syntax.Spec.{Spec}
@@ -41,3 +41,15 @@ walked spec walk (parts.Scope span body trap after) = Scope span (walk body) (wa
 unfoldable pub walk : Spec → ℕ → Part → Walk
 walk spec zero p = Beyond (span_of p)
 walk spec (suc room) p = walked spec (walk spec room) (shape spec.prods p)
+
+-- no visit is too deep
+abbrev pub complete : Walk → Bool
+complete (Beyond span) = false
+complete (Empty span) = true
+complete (Terminal span t) = true
+complete (Action span a) = true
+complete (Name span w) = complete w
+complete (Star span w) = complete w
+complete (Hold span b w) = complete w
+complete (Pair span by v w) = complete v && complete w
+complete (Scope span v w x) = complete v && (complete w && complete x)

@@ -5,6 +5,7 @@ mod build;
 mod expansion;
 mod failure;
 mod growth;
+pub mod laws;
 mod parts;
 mod terms;
 

@@ -1,0 +1,9 @@
+mod Alike
+mod AlikeUses
+mod BareForms
+mod BareParts
+mod BareTerms
+mod Rows
+mod SameRules
+mod SameWalks
+mod Twice

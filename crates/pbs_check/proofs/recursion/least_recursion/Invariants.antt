@@ -1,0 +1,6 @@
+use Rattle.pbs_check.specs.Least.{IsLeast}
+use Rattle.pbs_check.specs.Links.{HasRecursionTo}
+use Rattle.pbs_check.proofs.recursion.least_recursion.Given as goal
+
+abbrev pub invariant-loop-number : goal.invariant-loop-number
+invariant-loop-number l = IsLeast (HasRecursionTo l.graph.uses.items l.number) l.found

@@ -1,0 +1,10 @@
+pub mod EachLemmas
+pub mod TraceLemmas
+pub mod LoadLemmas
+pub mod RowLemmas
+pub mod ReportLemmas
+pub mod FrontLemmas
+pub mod LawLemmas
+pub mod WordLists
+pub mod SimulationLemmas
+pub mod TracingLemmas

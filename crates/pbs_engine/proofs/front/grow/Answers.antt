@@ -1,0 +1,24 @@
+use Rattle.std.proofs.Common.{Ok, Err}
+use Rattle.pbs_expand.specs.Expanded.{Gives}
+use Rattle.pbs_expand.specs.declared.failure.Expand.TheVariants as expands
+use Rattle.pbs_engine.proofs.FrontLemmas.{is_ready, too_large, is_found}
+use Rattle.pbs_engine.proofs.front.grow.Goals as goal
+
+pub expand-requires : goal.expand-requires
+expand-requires c =
+    is_ready c.args.spec (c.within_limits.ensures.inputs c.args.spec c.requires.unbroken)
+    (c.within_limits.ensures.actions c.args.spec c.requires.unbroken) c.requires.unbroken
+
+pub returns-in-Err-Refused : goal.returns-in-Err-Refused
+returns-in-Err-Refused c =
+    let gives : Gives c.args.spec (Err (expands.Refused c.in-Err-Refused.refusal)) =
+    rw c.in-Err-Refused.field-0-is at c.in-Err-Refused.ensures.exact in
+    too_large c.args.text.now c.args.spec c.in-Err-Refused.refusal c.requires.read
+    ((c.same_rules.ensures.answer c.args.spec (Ok tt)).0 c.requires.unbroken)
+    ((c.same_expansion.ensures.answer c.args.spec (Err (expands.Refused c.in-Err-Refused.refusal))).0 gives)
+
+pub returns-in-Ok : goal.returns-in-Ok
+returns-in-Ok c =
+    is_found c.args.text.now (record { spec = c.args.spec; main = c.in-Ok.main }) c.requires.read
+    ((c.same_rules.ensures.answer c.args.spec (Ok tt)).0 c.requires.unbroken)
+    ((c.same_expansion.ensures.answer c.args.spec (Ok c.in-Ok.main)).0 c.in-Ok.ensures.exact) c.in-Ok.ensures.names

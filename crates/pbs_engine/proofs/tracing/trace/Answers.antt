@@ -1,0 +1,22 @@
+use Rattle.std.proofs.Common.{Err}
+use Rattle.pbs_engine.specs.Made.{Makes}
+use Rattle.pbs_engine.specs.declared.fail.EngineFail.TheVariants as engine
+use Rattle.pbs_engine.proofs.TracingLemmas.{net_ends, text_refused}
+use Rattle.pbs_engine.proofs.tracing.trace.Goals as goal
+
+pub returns-in-Ok-clause-ends : goal.returns-in-Ok-clause-ends
+returns-in-Ok-clause-ends g c =
+    net_ends c.args.text.now c.args.name.now c.in-Ok.net (g.S.Shelf.state c.args.shelf.now)
+    (g.S.Shelf.state c.simulate.new.shelf) (g.K.Sink.state c.args.sink.now) (g.K.Sink.state c.simulate.new.sink)
+    c.simulate.result c.in-Ok.ensures c.simulate.ensures.ends
+
+pub returns-in-Ok-clause-untouched : goal.returns-in-Ok-clause-untouched
+returns-in-Ok-clause-untouched g c = λ r refused.
+    let made = c.in-Ok.ensures in absurd (c.one_run.ensures.apart c.args.text.now made.spec r made.run refused)
+
+pub returns-in-Err-Refused-clause-ends : goal.returns-in-Err-Refused-clause-ends
+returns-in-Err-Refused-clause-ends g c =
+    let made : Makes c.args.text.now (Err (engine.Refused c.in-Err-Refused.refusal)) =
+    rw c.in-Err-Refused.field-0-is at c.in-Err-Refused.ensures in
+    rw c.in-Err-Refused.field-0-is (text_refused c.args.text.now c.args.name.now c.in-Err-Refused.refusal (g.S.Shelf.state c.args.shelf.now)
+    (g.K.Sink.state c.args.sink.now) made)

@@ -1,0 +1,27 @@
+//! Laws of what a text stands for: a caller gets them as clauses of a call.
+ghost use Rattle.std.specs.Prelude.{◌≡◌, List, ℕ};
+ghost use Rattle.pbs_base.specs.declared.refusal.Refusal.{Refusal};
+ghost use Rattle.pbs_ast.specs.declared.syntax.Spec.{Spec};
+ghost use Rattle.pbs_engine.specs.Accepted.{Breaks, IsAccepted, IsNotRun, IsRun};
+
+use pbs_check::laws::one_refusal;
+use pbs_read::one_answer;
+
+/// A text is accepted as one specification or refused in one way, and not both.
+pub fn one_check()
+    ensures spec { (text : List ℕ) (a b : Spec) → IsAccepted text a → IsAccepted text b → a ≡ b }
+    ensures refusal { (text : List ℕ) (r s : Refusal) → Breaks text r → Breaks text s → r ≡ s }
+    ensures apart { (text : List ℕ) (a : Spec) (r : Refusal) → IsAccepted text a → Breaks text r → ⊥ }
+{
+    one_answer();
+    one_refusal();
+}
+
+/// A text is run as one specification or not run for one reason, and not both.
+pub fn one_run()
+    ensures spec { (text : List ℕ) (a b : Spec) → IsRun text a → IsRun text b → a ≡ b }
+    ensures refusal { (text : List ℕ) (r s : Refusal) → IsNotRun text r → IsNotRun text s → r ≡ s }
+    ensures apart { (text : List ℕ) (a : Spec) (r : Refusal) → IsRun text a → IsNotRun text r → ⊥ }
+{
+    one_check();
+}
