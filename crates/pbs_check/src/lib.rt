@@ -15,6 +15,8 @@ mod rules;
 mod searching;
 mod settling;
 mod tables;
+#[cfg(test)]
+mod tests;
 mod uses;
 mod walks;
 

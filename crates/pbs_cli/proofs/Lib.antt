@@ -1,15 +1,3 @@
-pub mod TokenLemmas
-pub mod JoinedLemmas
-pub mod NameLists
-pub mod StepLists
-pub mod HeadLemmas
-pub mod TraceLemmas
-pub mod EvaluateLemmas
-pub mod PortLemmas
-pub mod ReportLemmas
-pub mod LoadLemmas
 pub mod AnswerLemmas
+pub mod RunLemmas
 pub mod TopLemmas
-pub mod BuildLemmas
-pub mod BuildWires
-pub mod BuildPorts

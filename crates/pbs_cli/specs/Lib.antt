@@ -1,15 +1,4 @@
-pub mod Tokens
-pub mod TokenPieces
-pub mod Lines
-pub mod ThinLines
-pub mod ThinHeads
-pub mod ThinTraces
-pub mod Evaluates
-pub mod Ports
 pub mod Words
 pub mod Status
-pub mod Load
 pub mod Answers
-pub mod FirstFiles
-pub mod Builds
-pub mod LineWires
+pub mod Parts

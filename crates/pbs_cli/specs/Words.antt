@@ -5,6 +5,7 @@ use Rattle.pbs_cli.specs.declared.command.Words.{Words}
 use Rattle.pbs_cli.specs.declared.command.Words.TheVariants as words
 
 pub data Command : Type 0 where
+  Check : (spec : List ℕ) → Command
   Trace : (spec trace : List ℕ) → Command
   Usage : Command
 
@@ -12,10 +13,12 @@ abbrev pub texts : List (String Global) → List (List ℕ)
 texts words = map string_bytes words
 
 abbrev pub command_of : List (List ℕ) → Command
+command_of (word ∷ first ∷ []) = if bytes_eq word (codes "check") then Check first else Usage
 command_of (word ∷ first ∷ second ∷ []) = if bytes_eq word (codes "trace") then Trace first second else Usage
 command_of _ = Usage
 
 -- the command that the program's words are
 abbrev pub meant : Words → Command
+meant (words.Check spec) = Check spec.now
 meant (words.Trace spec trace) = Trace spec.now trace.now
 meant words.Usage = Usage

@@ -3,6 +3,7 @@ ghost use Rattle.std.specs.Prelude.{◌≡◌};
 ghost use Rattle.pbs_cli.specs.Words.{command_of, meant, texts};
 
 pub(crate) enum Words<'a> {
+    Check(&'a str),
     Trace(&'a str, &'a str),
     Usage,
 }
@@ -12,6 +13,7 @@ pub(crate) fn parse<'a>(words: &'a [String]) -> Words<'a>
     ensures { meant result ≡ command_of (texts words.now) }
 {
     match words {
+        [word, spec] if word.as_str() == "check" => Words::Check(spec.as_str()),
         [word, spec, trace] if word.as_str() == "trace" => {
             Words::Trace(spec.as_str(), trace.as_str())
         }

@@ -6,9 +6,10 @@ ghost use Rattle.pbs_cli.specs.Words.{command_of, texts, Usage};
 ghost use Rattle.pbs_cli.specs.Answers.{Wrote, CutShort, Defines, NeedsFiles, NeedsNoSecond, HasNeeded, Ends, command_task};
 ghost use Rattle.pbs_cli.specs.declared.status.Status.TheVariants as status;
 
+use crate::checking::check_file;
 use crate::command::{Words, parse};
 use crate::status::{Status, code};
-use crate::trace::trace;
+use crate::tracing::trace_files;
 use pbs_base::{Shelf, Sink};
 use std::alloc::Global;
 
@@ -64,6 +65,7 @@ fn perform<S: Shelf, K: Sink>(alloc: Global, words: &[String], shelf: &mut S, ou
 {
     match parse(words) {
         Words::Usage => Status::Usage,
-        Words::Trace(spec, name) => trace(alloc, spec, name, shelf, out),
+        Words::Check(spec) => check_file(alloc, spec, shelf, out),
+        Words::Trace(spec, name) => trace_files(alloc, spec, name, shelf, out),
     }
 }

@@ -5,12 +5,6 @@ use std::test::Fail;
 
 const PAIR: &[u8] = b"spec 1; input a, b; action x; main = [a], [~b], {x};";
 
-const EMPTY: &[u8] = b"spec 1; main = ();";
-
-// The only handshake: no thin specification.
-const HANDSHAKE: &[u8] =
-    b"spec 1; input req, ack; action start, done; main = ([~req]*, [req], {start}, [~ack]*, [ack], {done})*;";
-
 #[test]
 fn reports(rt: HostRuntime) -> Result<(), Fail> {
     let cases: [(&[u8], &[u8], u8, &[u8]); 8] = [
@@ -61,36 +55,6 @@ fn reports(rt: HostRuntime) -> Result<(), Fail> {
             run(rt.alloc(), words.as_slice(), &mut shelf, &mut out),
             status
         );
-        assert_eq!(rt; out.bytes(), text);
-    }
-    Ok(())
-}
-
-#[test]
-fn refuses_what_is_not_built(rt: HostRuntime) -> Result<(), Fail> {
-    let cases: [(&[u8], &[u8]); 6] = [
-        (EMPTY, b"spec refused rule 17 at 0..18\n"),
-        (HANDSHAKE, b"spec refused rule 17 at 0..102\n"),
-        (b"", b"spec refused rule 17 at 0..0\n"),
-        (
-            b"spec 1; input a; main = [b];",
-            b"spec refused rule 17 at 0..28\n",
-        ),
-        (
-            b"spec 1; input a, a; main = [a];",
-            b"spec refused rule 17 at 0..31\n",
-        ),
-        (
-            b"spec 1; input a; main = [a] ",
-            b"spec refused rule 17 at 0..28\n",
-        ),
-    ];
-    for (spec, text) in cases {
-        // The trace is not opened: it is not there.
-        let words = words(rt.alloc(), &["trace", "s", "none"])?;
-        let mut shelf = shelf(&rt, 100, spec, b"")?;
-        let mut out = sink(&rt, 200, 200)?;
-        assert_eq!(rt; run(rt.alloc(), words.as_slice(), &mut shelf, &mut out), 1);
         assert_eq!(rt; out.bytes(), text);
     }
     Ok(())

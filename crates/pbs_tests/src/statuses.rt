@@ -6,13 +6,14 @@ use std::test::Fail;
 
 #[test]
 fn usage(rt: HostRuntime) -> Result<(), Fail> {
-    let cases: [&[&str]; 7] = [
+    let cases: [&[&str]; 8] = [
         &[],
         &["trace"],
         &["trace", "s"],
         &["trace", "s", "t", "t"],
         &["Trace", "s", "t"],
-        &["check", "s"],
+        &["check"],
+        &["check", "s", "t"],
         &["soak", "01"],
     ];
     for line in cases {
@@ -30,7 +31,8 @@ fn usage(rt: HostRuntime) -> Result<(), Fail> {
 
 #[test]
 fn absent_files(rt: HostRuntime) -> Result<(), Fail> {
-    let cases: [&[&str]; 3] = [
+    let cases: [&[&str]; 4] = [
+        &["check", "none"],
         &["trace", "none", "t"],
         &["trace", "s", "none"],
         &["trace", "none", "none"],
@@ -104,7 +106,7 @@ fn each_call_of_the_sink_fails(rt: HostRuntime) -> Result<(), Fail> {
 #[test]
 fn a_refusal_needs_room(rt: HostRuntime) -> Result<(), Fail> {
     let words = words(rt.alloc(), &["trace", "s", "t"])?;
-    let mut shelf = shelf(&rt, 100, b"spec 1; main = ();", b"")?;
+    let mut shelf = shelf(&rt, 100, b"spec 1; main = [x];", b"")?;
     let mut out = sink(&rt, 5, 100)?;
     assert_eq!(rt; run(rt.alloc(), words.as_slice(), &mut shelf, &mut out), 4);
     assert_eq!(rt; out.bytes(), b"spec ".as_slice());

@@ -1,7 +1,0 @@
-use Rattle.std.proofs.Common.{◌≡◌, false}
-use Rattle.std.specs.Prelude.{replicate}
-use Rattle.net_core.specs.declared.gate.Wire.TheVariants.{Const}
-use Rattle.pbs_cli.proofs.build.blank_wires.Given as goal
-
-abbrev pub invariant-loop : goal.invariant-loop
-invariant-loop l = l.wires ≡ replicate l.counter (Const false)

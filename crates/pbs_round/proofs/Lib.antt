@@ -1,0 +1,15 @@
+mod Nesting
+mod Pieces
+mod Terms
+mod TermPhrases
+mod Found
+mod TermsRead
+mod Exprs
+mod ExprPhrases
+mod ExprsRead
+mod Lines
+mod LinesRead
+mod LinePhrases
+mod Whole
+mod Plain
+mod Examples

@@ -1,0 +1,2 @@
+pub mod Unspanned
+pub mod Written

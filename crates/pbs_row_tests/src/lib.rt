@@ -1,0 +1,11 @@
+//! Tests of the program's commands on worked texts. Each expected value is worked out by hand from docs/.
+#![tactic(auto)]
+
+#[cfg(test)]
+mod checks;
+#[cfg(test)]
+mod sizes;
+#[cfg(test)]
+mod texts;
+#[cfg(test)]
+mod traces;
