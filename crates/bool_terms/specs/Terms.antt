@@ -1,5 +1,6 @@
 -- Terms over one-bit inputs, and their truth in a vector.
-use Rattle.std.specs.Prelude.{ℕ, Bool, true, false, not, ◌&&◌, ◌||◌, ◌+◌, ◌%◌, ◌^◌, ◌*◌, bit_or, ◌<◌, ◌≡◌, nat_eq, nat_lt}
+use Rattle.std.specs.Prelude.{ℕ, Bool, true, false, not, ◌&&◌, ◌||◌, ◌+◌, ◌%◌, ◌^◌, ◌*◌, bit_or, ◌<◌, ◌≡◌, nat_eq}
+use Rattle.std.specs.Prelude.{nat_lt}
 use Rattle.pbs_base.specs.Entries.{bit}
 use Rattle.bool_terms.specs.declared.Term as declared
 

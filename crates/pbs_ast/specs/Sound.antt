@@ -1,8 +1,10 @@
 -- What holds of the tree of every accepted specification.
-use Rattle.std.specs.Prelude.{◌≡◌, IsTrue, nat_eq, nat_lt, bit_or, count_ones, Option, Some, None, if◌then◌else◌, ℕ, Bool, true, not, ◌&&◌, ◌+◌, ◌≤◌, max}
+use Rattle.std.specs.Prelude.{◌≡◌, IsTrue, nat_eq, nat_lt, bit_or, count_ones, Option, Some, None, if◌then◌else◌, ℕ}
+use Rattle.std.specs.Prelude.{Bool, true, not, ◌&&◌, ◌+◌, ◌≤◌, max}
 use Rattle.bool_terms.specs.Terms.{term_nodes, term_inputs_below, input_leaves, input_set}
 use Rattle.pbs_base.specs.declared.refusal.Span.{Span}
-use Rattle.pbs_ast.specs.Trees.{Tree, Empty, Terminal, Action, Seq, Choice, Star, Hold, Scope, nullable, has_terminal, is_plain}
+use Rattle.pbs_ast.specs.Trees.{Tree, Empty, Terminal, Action, Seq, Choice, Star, Hold, Scope, nullable, has_terminal}
+use Rattle.pbs_ast.specs.Trees.{is_plain}
 
 -- every input in the tree's terms is below the bound
 abbrev pub inputs_below : ℕ → Tree → Bool
@@ -87,7 +89,8 @@ places_from (Seq at e f) n = places_from e n && places_from f (n + place_count e
 places_from (Choice at e f) n = places_from e n && places_from f (n + place_count e)
 places_from (Star at e) n = places_from e n
 places_from (Hold at t e) n = places_from e n
-places_from (Scope at s e x h) n = places_from e n && (places_from x (n + place_count e) && places_from h (n + place_count e + place_count x))
+places_from (Scope at s e x h) n = places_from e n &&
+    (places_from x (n + place_count e) && places_from h (n + place_count e + place_count x))
 
 -- the scopes are numbered from n on, in the order of visits
 abbrev pub scopes_from : Tree → ℕ → Bool
@@ -98,7 +101,8 @@ scopes_from (Seq at e f) n = scopes_from e n && scopes_from f (n + scope_count e
 scopes_from (Choice at e f) n = scopes_from e n && scopes_from f (n + scope_count e)
 scopes_from (Star at e) n = scopes_from e n
 scopes_from (Hold at t e) n = scopes_from e n
-scopes_from (Scope at s e x h) n = nat_eq s n && (scopes_from e (1 + n) && (scopes_from x (1 + n + scope_count e) && scopes_from h (1 + n + scope_count e + scope_count x)))
+scopes_from (Scope at s e x h) n = nat_eq s n && (scopes_from e (1 + n) &&
+    (scopes_from x (1 + n + scope_count e) && scopes_from h (1 + n + scope_count e + scope_count x)))
 
 -- no star's body may cover the empty stretch
 abbrev pub stars_move : Tree → Bool
@@ -120,7 +124,8 @@ scopes_right (Seq at e f) = scopes_right e && scopes_right f
 scopes_right (Choice at e f) = scopes_right e && scopes_right f
 scopes_right (Star at e) = scopes_right e
 scopes_right (Hold at t e) = scopes_right e
-scopes_right (Scope at s e x h) = has_terminal e && (not (nullable x) && (is_plain x && (scopes_right e && scopes_right h)))
+scopes_right (Scope at s e x h) = has_terminal e &&
+    (not (nullable x) && (is_plain x && (scopes_right e && scopes_right h)))
 
 -- the nodes of the tree, without those of its terms
 abbrev pub visit_count : Tree → ℕ
@@ -142,7 +147,9 @@ nodes_from (Seq at e f) n = nat_eq at.number n && (nodes_from e (n + 1) && nodes
 nodes_from (Choice at e f) n = nat_eq at.number n && (nodes_from e (n + 1) && nodes_from f (n + 1 + visit_count e))
 nodes_from (Star at e) n = nat_eq at.number n && nodes_from e (n + 1)
 nodes_from (Hold at t e) n = nat_eq at.number n && nodes_from e (n + 1)
-nodes_from (Scope at s e x h) n = nat_eq at.number n && (nodes_from e (n + 1) && (nodes_from x (n + 1 + visit_count e) && nodes_from h (n + 1 + visit_count e + visit_count x)))
+nodes_from (Scope at s e x h) n = nat_eq at.number n &&
+    (nodes_from e (n + 1) && (nodes_from x (n + 1 + visit_count e) && nodes_from h
+    (n + 1 + visit_count e + visit_count x)))
 
 abbrev pub or_else : Option Span → Option Span → Option Span
 or_else None b = b

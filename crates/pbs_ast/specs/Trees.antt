@@ -32,7 +32,8 @@ tree_from span n (kind.Seq' _ s k e _ s' k' f) = Seq (spot_of span n) (tree_from
 tree_from span n (kind.Choice' _ s k e _ s' k' f) = Choice (spot_of span n) (tree_from s k e) (tree_from s' k' f)
 tree_from span n (kind.Star' _ s k e) = Star (spot_of span n) (tree_from s k e)
 tree_from span n (kind.Hold' t _ s k e) = Hold (spot_of span n) (term_of t) (tree_from s k e)
-tree_from span n (kind.Scope' p _ s k e _ s' k' x _ s'' k'' h) = Scope (spot_of span n) p (tree_from s k e) (tree_from s' k' x) (tree_from s'' k'' h)
+tree_from span n (kind.Scope' p _ s k e _ s' k' x _ s'' k'' h) = Scope (spot_of span n) p (tree_from s k e)
+    (tree_from s' k' x) (tree_from s'' k'' h)
 
 abbrev pub tree_of : tree.Tree → Tree
 tree_of tree = tree_from tree.span tree.number tree.kind

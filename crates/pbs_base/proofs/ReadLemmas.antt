@@ -1,5 +1,6 @@
 -- A slot that is read piece by piece.
-use Rattle.std.proofs.Common.{◌≡◌, ◌+◌, ◌-◌, ◌≤◌, ◌<◌, ℕ, List, [], ◌++◌, Option, Some, None, Ok, Err, length, take, refl, sym, ap, subst, ◌∙◌, append_assoc, append-nil, length-append, length-take, arith}
+use Rattle.std.proofs.Common.{◌≡◌, ◌+◌, ◌-◌, ◌≤◌, ◌<◌, ℕ, List, [], ◌++◌, Option, Some, None, Ok, Err, length, take}
+use Rattle.std.proofs.Common.{refl, sym, ap, subst, ◌∙◌, append_assoc, append-nil, length-append, length-take, arith}
 use Rattle.std.proofs.lemmas.List.{take-append-le}
 use Rattle.std.specs.Option.{ForSome}
 use Rattle.std.specs.Io.KnownBytes.{prepend_known, IsAtEnd}
@@ -8,7 +9,8 @@ use Rattle.pbs_base.specs.Outside.{ShelfState, GoesOn, Reads}
 use Rattle.pbs_base.specs.ReadAll.{IsFront, TakesAtMost, ReadsAll}
 use Rattle.pbs_base.specs.declared.read.ReadFail.TheVariants.{Fault, TooLong, Memory}
 
-pub prepend_known-twice : (xs ys : List ℕ) (known : Option (List ℕ)) → prepend_known xs (prepend_known ys known) ≡ prepend_known (xs ++ ys) known
+pub prepend_known-twice : (xs ys : List ℕ) (known : Option (List ℕ))
+    → prepend_known xs (prepend_known ys known) ≡ prepend_known (xs ++ ys) known
 prepend_known-twice xs ys None = refl
 prepend_known-twice xs ys (Some zs) = ap Some (sym (append_assoc xs ys zs))
 
@@ -33,15 +35,19 @@ nothing_read s slot out none = record {
   left = sym (ap (λ l. prepend_known l (s.slots slot).left) none ∙ prepend_known-nil (s.slots slot).left);
 }
 
-pub one_read_more : {E : Type 0} (a b c : ShelfState) (slot : ℕ) (out buffer next : List ℕ) (n : ℕ) → HasRead a b slot out → Reads {E = E} b c slot buffer (Ok n) → next ≡ out ++ take n buffer → HasRead a c slot next
+pub one_read_more : {E : Type 0} (a b c : ShelfState) (slot : ℕ) (out buffer next : List ℕ) (n : ℕ)
+    → HasRead a b slot out → Reads {E = E} b c slot buffer (Ok n) → next ≡ out ++ take n buffer → HasRead a c slot next
 one_read_more a b c slot out buffer next n so_far read grown = record {
   goes_on = GoesOn-trans a b c so_far.goes_on read.goes_on;
   other = read.other ∙ so_far.other;
   stands = read.stands ∙ so_far.stands;
-  left = so_far.left ∙ (ap (prepend_known out) read.moved ∙ (prepend_known-twice out (take n buffer) (c.slots slot).left ∙ ap (λ l. prepend_known l (c.slots slot).left) (sym grown)));
+  left = so_far.left ∙ (ap (prepend_known out) read.moved
+      ∙ (prepend_known-twice out (take n buffer) (c.slots slot).left
+      ∙ ap (λ l. prepend_known l (c.slots slot).left) (sym grown)));
 }
 
-pub read_failed : {E : Type 0} (a b c : ShelfState) (slot : ℕ) (out buffer : List ℕ) (e : E) → HasRead a b slot out → Reads b c slot buffer (Err e) → HasRead a c slot out
+pub read_failed : {E : Type 0} (a b c : ShelfState) (slot : ℕ) (out buffer : List ℕ) (e : E) → HasRead a b slot out
+    → Reads b c slot buffer (Err e) → HasRead a c slot out
 read_failed a b c slot out buffer e so_far read = record {
   goes_on = GoesOn-trans a b c so_far.goes_on read.goes_on;
   other = read.other ∙ so_far.other;
@@ -51,9 +57,11 @@ read_failed a b c slot out buffer e so_far read = record {
 
 pub front_of : (left now : Option (List ℕ)) (out : List ℕ) → left ≡ prepend_known out now → ForSome left (IsFront out)
 front_of left None out e text told = absurd (let clash : None ≡ Some text = sym e ∙ told in cc)
-front_of left (Some rest) out e text told = let same : Some (out ++ rest) ≡ Some text = sym e ∙ told in record { rest = rest; whole = cc }
+front_of left (Some rest) out e text told = let same : Some (out ++ rest) ≡ Some text = sym e
+    ∙ told in record { rest = rest; whole = cc }
 
-pub whole_of : (left now : Option (List ℕ)) (out : List ℕ) → left ≡ prepend_known out now → IsAtEnd now → ForSome left (λ text. out ≡ text)
+pub whole_of : (left now : Option (List ℕ)) (out : List ℕ) → left ≡ prepend_known out now → IsAtEnd now
+    → ForSome left (λ text. out ≡ text)
 whole_of left None out e end text told = absurd (let clash : None ≡ Some text = sym e ∙ told in cc)
 whole_of left (Some rest) out e end text told =
     let same : Some (out ++ rest) ≡ Some text = sym e ∙ told in
@@ -61,14 +69,17 @@ whole_of left (Some rest) out e end text told =
     sym (append-nil out) ∙ (ap (λ l. out ++ l) (sym end) ∙ joined)
 
 -- the bytes that were read were taken
-taken_so_far : (a b : ShelfState) (slot most : ℕ) (out : List ℕ) → HasRead a b slot out → length out ≤ most → TakesAtMost (a.slots slot).left (b.slots slot).left most
+taken_so_far : (a b : ShelfState) (slot most : ℕ) (out : List ℕ) → HasRead a b slot out → length out ≤ most
+    → TakesAtMost (a.slots slot).left (b.slots slot).left most
 taken_so_far a b slot most out so_far few = record { taken = out; few = few; left = so_far.left }
 
-pub read_whole : {T E : Type 0} (x : T) (a b c : ShelfState) (slot limit : ℕ) (out buffer : List ℕ) (n : ℕ) → HasRead a b slot out → Reads {E = E} b c slot buffer (Ok n) → n ≡ 0 → length out ≤ limit
+pub read_whole : {T E : Type 0} (x : T) (a b c : ShelfState) (slot limit : ℕ) (out buffer : List ℕ) (n : ℕ)
+    → HasRead a b slot out → Reads {E = E} b c slot buffer (Ok n) → n ≡ 0 → length out ≤ limit
     → ReadsAll {T = T} a c slot limit out (Ok x)
 read_whole x a b c slot limit out buffer n so_far read none short =
     let all = whole_of _ _ out so_far.left (read.end none) in
-    let done = one_read_more a b c slot out buffer out n so_far read (sym (append-nil out) ∙ ap (λ k. out ++ take k buffer) (sym none)) in
+    let done = one_read_more a b c slot out buffer out n so_far read (sym (append-nil out)
+    ∙ ap (λ k. out ++ take k buffer) (sym none)) in
     record {
       goes_on = done.goes_on;
       other = done.other;
@@ -79,7 +90,8 @@ read_whole x a b c slot limit out buffer n so_far read none short =
       never = λ _ _ bad. let h : Ok x ≡ Err Fault = bad in cc;
     }
 
-pub read_too_long : {T : Type 0} (a b : ShelfState) (slot limit : ℕ) (all out : List ℕ) → HasRead a b slot all → limit < length all → length all ≤ limit + 1 → out ≡ take limit all
+pub read_too_long : {T : Type 0} (a b : ShelfState) (slot limit : ℕ) (all out : List ℕ) → HasRead a b slot all
+    → limit < length all → length all ≤ limit + 1 → out ≡ take limit all
     → ReadsAll {T = T} a b slot limit out (Err TooLong)
 read_too_long a b slot limit all out so_far long few cut = record {
   goes_on = so_far.goes_on;
@@ -94,7 +106,8 @@ read_too_long a b slot limit all out so_far long few cut = record {
   never = λ _ _ bad. let h : Err TooLong ≡ Err Fault = bad in cc;
 }
 
-pub read_fault : {T E : Type 0} (a b c : ShelfState) (slot limit : ℕ) (out buffer : List ℕ) (e : E) → HasRead a b slot out → length out ≤ limit → Reads b c slot buffer (Err e)
+pub read_fault : {T E : Type 0} (a b c : ShelfState) (slot limit : ℕ) (out buffer : List ℕ) (e : E)
+    → HasRead a b slot out → length out ≤ limit → Reads b c slot buffer (Err e)
     → ReadsAll {T = T} a c slot limit out (Err Fault)
 read_fault a b c slot limit out buffer e so_far short read =
     let done = read_failed a b c slot out buffer e so_far read in
@@ -109,7 +122,8 @@ read_fault a b c slot limit out buffer e so_far short read =
     }
 
 -- bytes that were read found no room in `out`
-pub read_but_no_memory : {T E : Type 0} (a b c : ShelfState) (slot limit : ℕ) (out buffer next : List ℕ) (n : ℕ) → HasRead a b slot out → Reads {E = E} b c slot buffer (Ok n) → length out + n ≤ limit + 1 → next ≡ out
+pub read_but_no_memory : {T E : Type 0} (a b c : ShelfState) (slot limit : ℕ) (out buffer next : List ℕ) (n : ℕ)
+    → HasRead a b slot out → Reads {E = E} b c slot buffer (Ok n) → length out + n ≤ limit + 1 → next ≡ out
     → ReadsAll {T = T} a c slot limit next (Err Memory)
 read_but_no_memory a b c slot limit out buffer next n so_far read few same =
     let moved = one_read_more a b c slot out buffer (out ++ take n buffer) n so_far read refl in
@@ -117,13 +131,16 @@ read_but_no_memory a b c slot limit out buffer next n so_far read few same =
       goes_on = moved.goes_on;
       other = moved.other;
       stands = moved.stands;
-      takes = taken_so_far a c slot (limit + 1) (out ++ take n buffer) moved (omega (arith, length-append out (take n buffer), length-take n buffer));
-      gives = λ text told. let f = front_of _ _ out so_far.left text told in record { rest = f.rest; whole = ap (λ l. l ++ f.rest) same ∙ f.whole };
+      takes = taken_so_far a c slot (limit + 1) (out ++ take n buffer) moved
+          (omega (arith, length-append out (take n buffer), length-take n buffer));
+      gives = λ text told. let f = front_of _ _ out so_far.left text told in record
+          { rest = f.rest; whole = ap (λ l. l ++ f.rest) same ∙ f.whole };
       cause = λ bad. absurd (let h : Err Memory ≡ Err Fault = bad in cc);
       never = λ _ _ bad. let h : Err Memory ≡ Err Fault = bad in cc;
     }
 
-pub read_no_memory : {T : Type 0} (a b : ShelfState) (slot limit : ℕ) (out : List ℕ) → HasRead a b slot out → out ≡ [] → ReadsAll {T = T} a b slot limit out (Err Memory)
+pub read_no_memory : {T : Type 0} (a b : ShelfState) (slot limit : ℕ) (out : List ℕ) → HasRead a b slot out → out ≡ []
+    → ReadsAll {T = T} a b slot limit out (Err Memory)
 read_no_memory a b slot limit out so_far none = record {
   goes_on = so_far.goes_on;
   other = so_far.other;

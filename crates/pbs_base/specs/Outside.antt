@@ -1,5 +1,6 @@
 -- The outside of the program: named files that are read through two slots, and bytes that are written.
-use Rattle.std.specs.Prelude.{◌≡◌, ℕ, ◌+◌, ◌-◌, ◌^◌, ◌≤◌, min, Bool, true, false, cond, List, [], ◌∷◌, ◌++◌, take, Option, option_map, Result, is_ok, IfOk, OnOk, OnErr, IsOk, bytes_eq}
+use Rattle.std.specs.Prelude.{◌≡◌, ℕ, ◌+◌, ◌-◌, ◌^◌, ◌≤◌, min, Bool, true, false, cond, List, [], ◌∷◌, ◌++◌, take}
+use Rattle.std.specs.Prelude.{Option, option_map, Result, is_ok, IfOk, OnOk, OnErr, IsOk, bytes_eq}
 use Rattle.std.specs.Option.{ForSome}
 use Rattle.std.specs.Io.KnownBytes.{append_known, prepend_known, IsAtEnd}
 
@@ -26,7 +27,8 @@ has_file (file ∷ files) name = cond (bytes_eq file.name name) true (has_file f
 abbrev pub with_file : List NamedFile → List ℕ → List ℕ → List NamedFile
 with_file [] name bytes = record { name = name; bytes = bytes } ∷ []
 with_file (file ∷ files) name bytes =
-    cond (bytes_eq file.name name) (record { name = file.name; bytes = bytes } ∷ files) (file ∷ with_file files name bytes)
+    cond (bytes_eq file.name name) (record { name = file.name; bytes = bytes } ∷ files)
+    (file ∷ with_file files name bytes)
 
 -- a slot: whether a file stands in it, and what is left to read of it, where that is told
 pub record SlotState : Type 0 where
@@ -50,24 +52,26 @@ pub record GoesOn (before now : ShelfState) : Type 0 where
   pub sound : before.sound ≡ true → now.sound ≡ true
 
 -- the slot was put at the beginning of the named file
-pub record Opens {T E : Type 0} (before now : ShelfState) (slot : ℕ) (name : List ℕ) (result : Result T E) : Type 0 where
-  pub goes_on : GoesOn before now
-  pub other : now.slots (1 - slot) ≡ before.slots (1 - slot)
-  pub stands : (now.slots slot).stands ≡ is_ok result
-  pub left : OnOk result ((now.slots slot).left ≡ option_map (λ files. content_of files name) before.files)
-  pub cause : OnErr result (Rose before.faults now.faults)
-  pub never : before.sound ≡ true → ForSome before.files (λ files. has_file files name ≡ true → IsOk result)
+pub record Opens {T E : Type 0} (before now : ShelfState) (slot : ℕ) (name : List ℕ) (result : Result T E) : Type 0
+  where
+    pub goes_on : GoesOn before now
+    pub other : now.slots (1 - slot) ≡ before.slots (1 - slot)
+    pub stands : (now.slots slot).stands ≡ is_ok result
+    pub left : OnOk result ((now.slots slot).left ≡ option_map (λ files. content_of files name) before.files)
+    pub cause : OnErr result (Rose before.faults now.faults)
+    pub never : before.sound ≡ true → ForSome before.files (λ files. has_file files name ≡ true → IsOk result)
 
 -- the next bytes were moved to the front of the buffer, and zero of them only at the end
-pub record Reads {E : Type 0} (before now : ShelfState) (slot : ℕ) (buffer : List ℕ) (result : Result ℕ E) : Type 0 where
-  pub goes_on : GoesOn before now
-  pub other : now.slots (1 - slot) ≡ before.slots (1 - slot)
-  pub stands : (now.slots slot).stands ≡ (before.slots slot).stands
-  pub moved : IfOk result (λ n. (before.slots slot).left ≡ prepend_known (take n buffer) (now.slots slot).left)
-  pub end : IfOk result (λ n. n ≡ 0 → IsAtEnd (before.slots slot).left)
-  pub kept : OnErr result ((now.slots slot).left ≡ (before.slots slot).left)
-  pub cause : OnErr result (Rose before.faults now.faults)
-  pub never : before.sound ≡ true → (before.slots slot).stands ≡ true → IsOk result
+pub record Reads {E : Type 0} (before now : ShelfState) (slot : ℕ) (buffer : List ℕ) (result : Result ℕ E) : Type 0
+  where
+    pub goes_on : GoesOn before now
+    pub other : now.slots (1 - slot) ≡ before.slots (1 - slot)
+    pub stands : (now.slots slot).stands ≡ (before.slots slot).stands
+    pub moved : IfOk result (λ n. (before.slots slot).left ≡ prepend_known (take n buffer) (now.slots slot).left)
+    pub end : IfOk result (λ n. n ≡ 0 → IsAtEnd (before.slots slot).left)
+    pub kept : OnErr result ((now.slots slot).left ≡ (before.slots slot).left)
+    pub cause : OnErr result (Rose before.faults now.faults)
+    pub never : before.sound ≡ true → (before.slots slot).stands ≡ true → IsOk result
 
 -- ---- the sink
 

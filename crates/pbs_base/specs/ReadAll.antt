@@ -24,7 +24,8 @@ pub record TakesAtMost (before now : Option (List ℕ)) (most : ℕ) : Type 0 wh
   pub few : length taken ≤ most
   pub left : before ≡ prepend_known taken now
 
-pub record ReadsAll {T : Type 0} (before now : ShelfState) (slot limit : ℕ) (out : List ℕ) (result : Result T ReadFail) : Type 0 where
+pub record ReadsAll {T : Type 0} (before now : ShelfState) (slot limit : ℕ) (out : List ℕ)
+    (result : Result T ReadFail) : Type 0 where
   pub goes_on : GoesOn before now
   pub other : now.slots (1 - slot) ≡ before.slots (1 - slot)
   pub stands : (now.slots slot).stands ≡ (before.slots slot).stands

@@ -1,5 +1,7 @@
 // Named files in memory, with two slots: what the shelves in memory share.
-ghost use Rattle.std.specs.Prelude.{◌≡◌, ◌≢◌, ℕ, ◌+◌, ◌-◌, ◌<◌, ◌≤◌, min, [], ◌∷◌, ◌++◌, Ok, Result, length, take, drop, true, false, IfSome, IfNone, IfOk, OnOk, OnErr, slice_index_or, bytes_eq, string_bytes, vec_len};
+ghost use Rattle.std.specs.Prelude.{◌≡◌, ◌≢◌, ℕ, ◌+◌, ◌-◌, ◌<◌, ◌≤◌, min, [], ◌∷◌, ◌++◌, Ok, Result, length, take};
+ghost use Rattle.std.specs.Prelude.{drop, true, false, IfSome, IfNone, IfOk, OnOk, OnErr, slice_index_or, bytes_eq};
+ghost use Rattle.std.specs.Prelude.{string_bytes, vec_len};
 ghost use Rattle.std.specs.Io.KnownBytes.{prepend_known};
 ghost use Rattle.std.specs.List.{position_from};
 ghost use Rattle.std.specs.Io.{ReadsAtMost};
@@ -51,8 +53,10 @@ impl Cabinet {
 
     // The number of the file with this name.
     pub(crate) fn find(&self, name: &str) -> Option<usize>
-        ensures there { IfSome result (λ i. (has_file (entries self.now.files.items) name.now ≡ true) × (bytes_at self.now.files.items i ≡ content_of (entries self.now.files.items) name.now)) }
-        ensures absent { IfNone result ((has_file (entries self.now.files.items) name.now ≡ false) × (content_of (entries self.now.files.items) name.now ≡ [])) }
+        ensures there { IfSome result (λ i. (has_file (entries self.now.files.items) name.now ≡ true) ×
+            (bytes_at self.now.files.items i ≡ content_of (entries self.now.files.items) name.now)) }
+        ensures absent { IfNone result ((has_file (entries self.now.files.items) name.now ≡ false) ×
+            (content_of (entries self.now.files.items) name.now ≡ [])) }
     {
         self.index_of(name)
     }
@@ -60,7 +64,8 @@ impl Cabinet {
     // Adds a file, or puts other bytes under a name that is there. Then no file stands in a slot.
     #[tactic(auto, using(crate::proofs::CabinetLemmas::entries_set, crate::proofs::CabinetLemmas::entries_more))]
     pub(crate) fn add(&mut self, alloc: Global, name: &str, bytes: &[u8]) -> Result<(), Memory>
-        ensures files { OnOk result (entries self.new.files.items ≡ with_file (entries self.old.files.items) name.now bytes.now) }
+        ensures files { OnOk result (entries self.new.files.items ≡ with_file (entries self.old.files.items) name.now
+            bytes.now) }
         ensures slots { OnOk result (self.new.slots ≡ all_empty) }
         ensures err { OnErr result ((self.new.files.items ≡ self.old.files.items) × (self.new.slots ≡ self.old.slots)) }
     {
@@ -100,7 +105,8 @@ impl Cabinet {
 
     fn index_of(&self, name: &str) -> Option<usize>
         ensures within { IfSome result (λ i. i < vec_len self.now.files) }
-        ensures value { result ≡ position_from (λ file. bytes_eq (string_bytes file.name) name.now) 0 self.now.files.items }
+        ensures value { result ≡ position_from (λ file. bytes_eq (string_bytes file.name) name.now) 0
+            self.now.files.items }
     {
         self.files
             .iter()
@@ -160,9 +166,11 @@ impl Cabinet {
         requires room { 0 < length buffer.old }
         requires step_in { 0 < step }
         ensures bound { (result ≤ length buffer.new) × (result ≡ length (take result buffer.new)) }
-        ensures whole { left_at self.old.files.items (place_in self.old.slots slot) ≡ take result buffer.new ++ left_at self.old.files.items (place_in self.new.slots slot) }
+        ensures whole { left_at self.old.files.items (place_in self.old.slots slot) ≡ take result buffer.new ++
+            left_at self.old.files.items (place_in self.new.slots slot) }
         ensures end { result ≡ 0 → left_at self.old.files.items (place_in self.old.slots slot) ≡ [] }
-        ensures most { result ≡ min step (min (length buffer.old) (length (left_at self.old.files.items (place_in self.old.slots slot)))) }
+        ensures most { result ≡ min step (min (length buffer.old)
+            (length (left_at self.old.files.items (place_in self.old.slots slot)))) }
         ensures files { self.new.files ≡ self.old.files }
         ensures stands { (place_in self.new.slots slot).stands ≡ (place_in self.old.slots slot).stands }
         ensures other { place_in self.new.slots (1 - slot) ≡ place_in self.old.slots (1 - slot) }
@@ -173,10 +181,13 @@ impl Cabinet {
     fn advance(&mut self, slot: usize, buffer: &mut [u8], step: usize) -> usize
         requires { slot < 2 }
         ensures bound { (result ≤ length buffer.new) × (result ≡ length (take result buffer.new)) }
-        ensures most { result ≡ min step (min (length buffer.old) (length (left_at self.old.files.items (place_in self.old.slots slot)))) }
+        ensures most { result ≡ min step (min (length buffer.old)
+            (length (left_at self.old.files.items (place_in self.old.slots slot)))) }
         ensures files { self.new.files ≡ self.old.files }
-        ensures moved { take result buffer.new ≡ take result (left_at self.old.files.items (place_in self.old.slots slot)) }
-        ensures left { left_at self.old.files.items (place_in self.new.slots slot) ≡ drop result (left_at self.old.files.items (place_in self.old.slots slot)) }
+        ensures moved { take result buffer.new ≡ take result
+            (left_at self.old.files.items (place_in self.old.slots slot)) }
+        ensures left { left_at self.old.files.items (place_in self.new.slots slot) ≡ drop result
+            (left_at self.old.files.items (place_in self.old.slots slot)) }
         ensures stands { (place_in self.new.slots slot).stands ≡ (place_in self.old.slots slot).stands }
         ensures other { place_in self.new.slots (1 - slot) ≡ place_in self.old.slots (1 - slot) }
     {

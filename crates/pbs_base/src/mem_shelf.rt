@@ -1,5 +1,6 @@
 // A shelf in memory, whose calls fail where they are told to.
-ghost use Rattle.std.specs.Prelude.{◌≡◌, ◌+◌, ◌-◌, ◌<◌, ◌^◌, min, [], ◌∷◌, ◌++◌, length, true, false, Some, IfOk, OnOk, OnErr, is_err, not, ◌||◌, refl, option_map};
+ghost use Rattle.std.specs.Prelude.{◌≡◌, ◌+◌, ◌-◌, ◌<◌, ◌^◌, min, [], ◌∷◌, ◌++◌, length, true, false, Some, IfOk, OnOk};
+ghost use Rattle.std.specs.Prelude.{OnErr, is_err, not, ◌||◌, refl, option_map};
 ghost use Rattle.std.specs.Io.{ReadsAtMost};
 ghost use Rattle.pbs_base.specs.Outside.{Opens, Reads};
 
@@ -75,7 +76,8 @@ impl MemShelf {
 }
 
 impl Shelf for MemShelf {
-    ghost use Rattle.pbs_base.specs.Memory.{mem_shelf_state, shelf_fails, shelf_calls, shelf_step, shelf_moves, is_to_fail};
+    ghost use Rattle.pbs_base.specs.Memory.{mem_shelf_state, shelf_fails, shelf_calls, shelf_step, shelf_moves};
+    ghost use Rattle.pbs_base.specs.Memory.{is_to_fail};
     ghost use Rattle.pbs_base.specs.Outside.{has_file};
     ghost use Rattle.pbs_base.specs.Cabinet.{entries};
 
@@ -88,7 +90,8 @@ impl Shelf for MemShelf {
         requires { slot < 2 }
         ensures opens { Opens (mem_shelf_state self.old) (mem_shelf_state self.new) slot name.now result }
         ensures exact { is_err result
-            ≡ (is_to_fail (shelf_fails self.old) (shelf_calls self.old) || not (has_file (entries self.old.cabinet.files.items) name.now)) }
+            ≡ (is_to_fail (shelf_fails self.old) (shelf_calls self.old) || not
+            (has_file (entries self.old.cabinet.files.items) name.now)) }
         ensures counted { shelf_calls self.new ≡ min (shelf_calls self.old + 1) (2 ^ 64 - 1) }
         ensures fails { shelf_fails self.new ≡ shelf_fails self.old }
         ensures step { shelf_step self.new ≡ shelf_step self.old }
@@ -116,7 +119,8 @@ impl Shelf for MemShelf {
         ensures bound { ReadsAtMost result buffer.new }
         ensures reads { Reads (mem_shelf_state self.old) (mem_shelf_state self.new) slot buffer.new result }
         ensures exact { is_err result
-            ≡ (is_to_fail (shelf_fails self.old) (shelf_calls self.old) || not ((mem_shelf_state self.old).slots slot).stands) }
+            ≡ (is_to_fail (shelf_fails self.old) (shelf_calls self.old) || not
+            ((mem_shelf_state self.old).slots slot).stands) }
         ensures most { IfOk result (λ n. n ≡ shelf_moves self.old slot (length buffer.old)) }
         ensures counted { shelf_calls self.new ≡ min (shelf_calls self.old + 1) (2 ^ 64 - 1) }
         ensures fails { shelf_fails self.new ≡ shelf_fails self.old }

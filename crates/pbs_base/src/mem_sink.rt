@@ -1,5 +1,6 @@
 // A sink in memory, whose calls fail where they are told to.
-ghost use Rattle.std.specs.Prelude.{◌≡◌, ◌+◌, ◌-◌, ◌<◌, ◌≤◌, ◌^◌, min, [], ◌∷◌, ◌++◌, length, vec_len, vec_capacity, IfOk, OnOk, OnErr, nat_eq, is_err, ◌||◌};
+ghost use Rattle.std.specs.Prelude.{◌≡◌, ◌+◌, ◌-◌, ◌<◌, ◌≤◌, ◌^◌, min, [], ◌∷◌, ◌++◌, length, vec_len, vec_capacity};
+ghost use Rattle.std.specs.Prelude.{IfOk, OnOk, OnErr, nat_eq, is_err, ◌||◌};
 ghost use Rattle.pbs_base.specs.Outside.{Puts};
 
 use crate::calls::Calls;
@@ -64,7 +65,8 @@ impl MemSink {
 }
 
 impl Sink for MemSink {
-    ghost use Rattle.pbs_base.specs.Memory.{mem_sink_state, sink_fails, sink_calls, sink_room, sink_step, sink_takes, is_to_fail};
+    ghost use Rattle.pbs_base.specs.Memory.{mem_sink_state, sink_fails, sink_calls, sink_room, sink_step, sink_takes};
+    ghost use Rattle.pbs_base.specs.Memory.{is_to_fail};
 
     ghost state = { mem_sink_state };
 
@@ -73,7 +75,8 @@ impl Sink for MemSink {
         ensures bound { IfOk result (λ n. (0 < n) × (n ≤ length piece.now)) }
         ensures puts { Puts (mem_sink_state self.old) (mem_sink_state self.new) piece.now result }
         ensures exact { is_err result
-            ≡ (is_to_fail (sink_fails self.old) (sink_calls self.old) || nat_eq (sink_takes self.old (length piece.now)) 0) }
+            ≡ (is_to_fail (sink_fails self.old) (sink_calls self.old) || nat_eq
+            (sink_takes self.old (length piece.now)) 0) }
         ensures most { IfOk result (λ n. n ≡ sink_takes self.old (length piece.now)) }
         ensures counted { sink_calls self.new ≡ min (sink_calls self.old + 1) (2 ^ 64 - 1) }
         ensures fails { sink_fails self.new ≡ sink_fails self.old }

@@ -1,4 +1,5 @@
-ghost use Rattle.std.specs.Prelude.{◌≡◌, ◌<◌, [], ◌∷◌, ◌++◌, Ok, true, false, length, slice_get, IsSome, IfSome, IfNone, IfOk, OnErr, ◌↔◌, Contains, Some, ◌==◌};
+ghost use Rattle.std.specs.Prelude.{◌≡◌, ◌<◌, [], ◌∷◌, ◌++◌, Ok, true, false, length, slice_get, IsSome, IfSome};
+ghost use Rattle.std.specs.Prelude.{IfNone, IfOk, OnErr, ◌↔◌, Contains, Some, ◌==◌};
 ghost use Rattle.std.specs.List.{position};
 ghost use Rattle.std.specs.Cmp.Lexicographic.{pointwise};
 ghost use Rattle.std.specs.Option.{option_copied};

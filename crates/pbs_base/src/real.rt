@@ -35,7 +35,8 @@ impl<'a, R: Files> FileShelf<'a, R> {
     fn place(&mut self, slot: usize, opened: Option<R::File>)
         requires { slot < 2 }
         ensures slot { stands_in (is_some self.new.first) (is_some self.new.second) slot ≡ is_some opened }
-        ensures other { stands_in (is_some self.new.first) (is_some self.new.second) (1 - slot) ≡ stands_in (is_some self.old.first) (is_some self.old.second) (1 - slot) }
+        ensures other { stands_in (is_some self.new.first) (is_some self.new.second) (1 - slot) ≡ stands_in
+            (is_some self.old.first) (is_some self.old.second) (1 - slot) }
         ensures faults { self.new.faults ≡ self.old.faults }
     {
         if slot == 0 {

@@ -16,11 +16,13 @@ known_of known name = get (pointwise ◌==◌) known.facts name
 
 -- one part after another, and one of two
 abbrev pub after : Option Facts → Option Facts → Option Facts
-after (Some a) (Some b) = Some (fact (a.may_be_empty && b.may_be_empty) (a.has_terminal || b.has_terminal) (a.is_busy || b.is_busy))
+after (Some a) (Some b) = Some (fact (a.may_be_empty && b.may_be_empty) (a.has_terminal || b.has_terminal)
+    (a.is_busy || b.is_busy))
 after _ _ = None
 
 abbrev pub either : Option Facts → Option Facts → Option Facts
-either (Some a) (Some b) = Some (fact (a.may_be_empty || b.may_be_empty) (a.has_terminal || b.has_terminal) (a.is_busy || b.is_busy))
+either (Some a) (Some b) = Some (fact (a.may_be_empty || b.may_be_empty) (a.has_terminal || b.has_terminal)
+    (a.is_busy || b.is_busy))
 either _ _ = None
 
 -- the same, but it may be empty where this holds
@@ -30,7 +32,8 @@ or_empty may None = None
 
 -- a scope with its body, trap and after part
 abbrev pub scope_of : Option Facts → Option Facts → Option Facts → Option Facts
-scope_of (Some a) (Some b) (Some c) = Some (fact a.may_be_empty (a.has_terminal || (b.has_terminal || c.has_terminal)) true)
+scope_of (Some a) (Some b) (Some c) = Some (fact a.may_be_empty (a.has_terminal || (b.has_terminal || c.has_terminal))
+    true)
 scope_of _ _ _ = None
 
 -- a choice of none stands for `()`
@@ -49,7 +52,8 @@ abbrev mutual
   kind_facts known (kind.Plus' p s e) = kind_facts known e
   kind_facts known (kind.Opt' p s e) = or_empty true (kind_facts known e)
   kind_facts known (kind.Hold' t p s e) = kind_facts known e
-  kind_facts known (kind.Scope' p s e q s' x r s'' h) = scope_of (kind_facts known e) (kind_facts known x) (kind_facts known h)
+  kind_facts known (kind.Scope' p s e q s' x r s'' h) = scope_of (kind_facts known e) (kind_facts known x)
+      (kind_facts known h)
   kind_facts known (kind.Name name) = known name
   kind_facts known (kind.Repeat' p s e m n) = or_empty (nat_eq m 0) (kind_facts known e)
 

@@ -1,5 +1,6 @@
 -- What the code finds for each rule.
-use Rattle.std.specs.Prelude.{ℕ, ◌+◌, nat_lt, if◌then◌else◌, Option, Some, None, List, [], ◌∷◌, ◌++◌, map, length, slice_get}
+use Rattle.std.specs.Prelude.{ℕ, ◌+◌, nat_lt, if◌then◌else◌, Option, Some, None, List, [], ◌∷◌, ◌++◌, map, length}
+use Rattle.std.specs.Prelude.{slice_get}
 use Rattle.std.specs.Option.{option_map}
 use Rattle.pbs_base.specs.declared.refusal.Span.{Span}
 use Rattle.pbs_ast.specs.declared.syntax.Decl.{Decl}
@@ -25,12 +26,14 @@ found_twice spec = least_of (first_twice (declared_names spec)) (least_by level_
 -- the declaration with which a count that stands at n passes 64
 abbrev pub over_inputs : ℕ → List Decl → Option Span
 over_inputs n [] = None
-over_inputs n (d ∷ ds) = if nat_lt 64 (n + length (inputs_of d)) then Some d.span else over_inputs (n + length (inputs_of d)) ds
+over_inputs n (d ∷ ds) = if nat_lt 64 (n + length (inputs_of d)) then Some d.span else over_inputs
+    (n + length (inputs_of d)) ds
 
 abbrev pub found_over : Spec → Option Span
 found_over spec =
     least_of (over_inputs 0 spec.inputs)
-    (least_of (option_map (λ (d : Decl). d.span) (slice_get spec.actions 64)) (option_map (λ (l : Level). l.span) (slice_get spec.levels 64)))
+    (least_of (option_map (λ (d : Decl). d.span) (slice_get spec.actions 64))
+    (option_map (λ (l : Level). l.span) (slice_get spec.levels 64)))
 
 -- the tables have the names of the specification
 pub record IsTables (spec : Spec) (tables : Tables) : Type 0 where

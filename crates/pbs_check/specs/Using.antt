@@ -1,5 +1,6 @@
 -- Rules 6, 7, 18 and 19: names that are used, comparisons and repetitions. They look at every production.
-use Rattle.std.specs.Prelude.{◌≡◌, ◌≤◌, ◌<◌, ◌^◌, ℕ, ◌⊎◌, nat_eq, if◌then◌else◌, Some, List, [], ◌∷◌, ◌++◌, map, Contains}
+use Rattle.std.specs.Prelude.{◌≡◌, ◌≤◌, ◌<◌, ◌^◌, ℕ, ◌⊎◌, nat_eq, if◌then◌else◌, Some, List, [], ◌∷◌, ◌++◌, map}
+use Rattle.std.specs.Prelude.{Contains}
 use Rattle.pbs_base.specs.declared.refusal.Span.{Span}
 use Rattle.pbs_ast.specs.declared.syntax.Decl.{Decl}
 use Rattle.pbs_ast.specs.declared.syntax.Expr.{Expr}
@@ -61,7 +62,8 @@ own_uses e f = map leaf_use (form_leaves f)
 
 pub data IsUse (spec : Spec) : Use → Type 0 where
   InExpr : {e : Expr} {u : Use} → Stands spec e → Contains (own_uses e (form e)) u → IsUse spec u
-  InLevel : {l : Level} {s : Set} → Contains spec.levels l → Contains l.sets s → IsUse spec (use_of wanted.Action s.action s.span)
+  InLevel : {l : Level} {s : Set} → Contains spec.levels l → Contains l.sets s
+      → IsUse spec (use_of wanted.Action s.action s.span)
 
 -- the names of the declarations that are buses
 abbrev pub bus_names : List Decl → List (List ℕ)

@@ -35,14 +35,16 @@ kind_numbers tables wanted.Production = tables.prods
 abbrev pub name_broken : Look → Tables → Wanted → List ℕ → Span → Option Span
 name_broken looks.Declared tables wants name span = if is_some (number_in tables.declared name) then None else Some span
 name_broken looks.Kinds tables wants name span =
-    if is_some (number_in tables.declared name) && not (is_some (number_in (kind_numbers tables wants) name)) then Some span
+    if is_some (number_in tables.declared name) && not (is_some (number_in (kind_numbers tables wants) name)) then
+    Some span
     else None
 name_broken _ tables wants name span = None
 
 -- the width of the first bus of that name
 abbrev pub bus_width : List Decl → List ℕ → Option ℕ
 bus_width [] name = None
-bus_width (d ∷ ds) name = if not (nat_eq d.width 0) && pointwise ◌==◌ d.name name then Some d.width else bus_width ds name
+bus_width (d ∷ ds) name = if not (nat_eq d.width 0) && pointwise ◌==◌ d.name name then Some d.width else bus_width ds
+    name
 
 abbrev pub too_large : Option ℕ → ℕ → Span → Option Span
 too_large None number at = None
@@ -74,7 +76,8 @@ if_wrong span (Some first) (Some second) =
 if_wrong span _ _ = None
 
 abbrev pub scope_broken : Look → Tables → Span → Expr → Expr → Option Span
-scope_broken looks.Scopes tables span b x = if_wrong span (expr_facts (known_of tables.known) b) (expr_facts (known_of tables.known) x)
+scope_broken looks.Scopes tables span b x = if_wrong span (expr_facts (known_of tables.known) b)
+    (expr_facts (known_of tables.known) x)
 scope_broken _ tables span b x = None
 
 -- what is wrong with an expression, its parts aside

@@ -10,14 +10,24 @@ use Rattle.pbs_cli.specs.Answers.{Wrote, Ends, Defines, command_task}
 use Rattle.pbs_cli.specs.declared.status.Status.{Status}
 use Rattle.pbs_cli.specs.declared.status.Status.TheVariants.{Accepted, Refused, Usage, ReadFault, WriteFault, Memory}
 
-usage_written : (files : List NamedFile) (k m : SinkState) → m.written ≡ k.written → Wrote (Defines words.Usage files) 2 k m
-usage_written files k m same = record { answer = record { status = 2; text = [] }; defined = refl; status_is = refl; written = same ∙ sym (append_known-nil k.written) }
+usage_written : (files : List NamedFile) (k m : SinkState) → m.written ≡ k.written
+    → Wrote (Defines words.Usage files) 2 k m
+usage_written files k m same = record {
+  answer = record { status = 2; text = [] };
+  defined = refl;
+  status_is = refl;
+  written = same ∙ sym (append_known-nil k.written);
+}
 
-pub complete : (command : Command) (s n : ShelfState) (k m : SinkState) (status : Status) → (status ≡ Usage → command ≡ words.Usage) → (status ≡ Usage → m.written ≡ k.written) → (status ≢ Usage → Ends (command_task command s) s n k m status)
-    → (Rose s.faults n.faults → ⊥) → (Rose k.faults m.faults → ⊥) → code_of status ≢ 5 → ForSome s.files (λ files. Wrote (Defines command files) (code_of status) k m)
+pub complete : (command : Command) (s n : ShelfState) (k m : SinkState) (status : Status)
+    → (status ≡ Usage → command ≡ words.Usage) → (status ≡ Usage → m.written ≡ k.written)
+    → (status ≢ Usage → Ends (command_task command s) s n k m status)
+    → (Rose s.faults n.faults → ⊥) → (Rose k.faults m.faults → ⊥) → code_of status ≢ 5
+    → ForSome s.files (λ files. Wrote (Defines command files) (code_of status) k m)
 complete command s n k m Accepted usage same ends calm quiet enough = ends (λ bad. cc)
 complete command s n k m Refused usage same ends calm quiet enough = ends (λ bad. cc)
-complete command s n k m Usage usage same ends calm quiet enough = λ files told. (let P : Command → Type 0 = λ c. Wrote (Defines c files) 2 k m in subst P (sym (usage refl)) (usage_written files k m (same refl)))
+complete command s n k m Usage usage same ends calm quiet enough = λ files told. (let P : Command
+    → Type 0 = λ c. Wrote (Defines c files) 2 k m in subst P (sym (usage refl)) (usage_written files k m (same refl)))
 complete command s n k m ReadFault usage same ends calm quiet enough = absurd (calm (ends (λ bad. cc)).0.rose)
 complete command s n k m WriteFault usage same ends calm quiet enough = absurd (quiet (ends (λ bad. cc)).0)
 complete command s n k m Memory usage same ends calm quiet enough = absurd (enough refl)

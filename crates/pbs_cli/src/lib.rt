@@ -4,6 +4,7 @@
 mod checking;
 mod command;
 mod first;
+pub mod laws;
 mod status;
 mod top;
 mod tracing;

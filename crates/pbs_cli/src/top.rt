@@ -3,7 +3,8 @@ ghost use Rattle.std.specs.Prelude.{◌≡◌, ◌↔◌, ◌<◌, ◌≤◌, �
 ghost use Rattle.std.specs.Option.{ForSome};
 ghost use Rattle.pbs_base.specs.Outside.{Rose};
 ghost use Rattle.pbs_cli.specs.Words.{command_of, texts, Usage};
-ghost use Rattle.pbs_cli.specs.Answers.{Wrote, CutShort, Defines, NeedsFiles, NeedsNoSecond, HasNeeded, Ends, command_task};
+ghost use Rattle.pbs_cli.specs.Answers.{Wrote, CutShort, Defines, NeedsFiles, NeedsNoSecond, HasNeeded, Ends};
+ghost use Rattle.pbs_cli.specs.Answers.{command_task};
 ghost use Rattle.pbs_cli.specs.declared.status.Status.TheVariants as status;
 
 use crate::checking::check_file;
@@ -44,7 +45,8 @@ pub fn run<S: Shelf, K: Sink>(alloc: Global, words: &[String], shelf: &mut S, ou
 
     // Where the first file is refused, the second slot is left as it was.
     ensures second { ForSome (S.state shelf.old).files (λ files.
-        NeedsNoSecond (command_of (texts words.now)) files → (S.state shelf.new).slots 1 ≡ (S.state shelf.old).slots 1) }
+        NeedsNoSecond (command_of (texts words.now)) files
+        → (S.state shelf.new).slots 1 ≡ (S.state shelf.old).slots 1) }
 
     // Where neither count rose, the answer is the defined one, written whole, or 5.
     ensures complete { (Rose (S.state shelf.old).faults (S.state shelf.new).faults → ⊥)
@@ -59,9 +61,11 @@ fn perform<S: Shelf, K: Sink>(alloc: Global, words: &[String], shelf: &mut S, ou
     ensures usage { (result ≡ status.Usage) ↔ (command_of (texts words.now) ≡ Usage) }
     ensures untouched { result ≡ status.Usage → (shelf.new ≡ shelf.old) × (out.new ≡ out.old) }
     ensures ends { result ≢ status.Usage
-        → Ends (command_task (command_of (texts words.now)) (S.state shelf.old)) (S.state shelf.old) (S.state shelf.new) (K.state out.old) (K.state out.new) result }
+        → Ends (command_task (command_of (texts words.now)) (S.state shelf.old)) (S.state shelf.old)
+        (S.state shelf.new) (K.state out.old) (K.state out.new) result }
     ensures second { ForSome (S.state shelf.old).files (λ files.
-        NeedsNoSecond (command_of (texts words.now)) files → (S.state shelf.new).slots 1 ≡ (S.state shelf.old).slots 1) }
+        NeedsNoSecond (command_of (texts words.now)) files
+        → (S.state shelf.new).slots 1 ≡ (S.state shelf.old).slots 1) }
 {
     match parse(words) {
         Words::Usage => Status::Usage,

@@ -1,6 +1,7 @@
 -- What a tree covers, and where it is alive, at the empty stretch.
 use Rattle.std.proofs.Common.{◌≡◌, ℕ, ◌+◌, ◌-◌, ◌<◌, ◌≤◌, true, false, List, inl, inr, refl, sym, ◌∙◌, ap, arith}
-use Rattle.std.proofs.lemmas.Bool.{and_parts, and_from, and_cases, or_parts, false≢true, true≢false, eqb-true, eq-eqb, cases_Bool, or_left, or_right}
+use Rattle.std.proofs.lemmas.Bool.{and_parts, and_from, and_cases, or_parts, false≢true, true≢false, eqb-true, eq-eqb}
+use Rattle.std.proofs.lemmas.Bool.{cases_Bool, or_left, or_right}
 use Rattle.pbs_ast.specs.Trees.{Tree, Empty, Terminal, Action, Seq, Choice, Star, Hold, Scope, nullable, has_terminal}
 use Rattle.pbs_derive.proofs.Shapes.{WellFormed}
 use Rattle.pbs_derive.specs.Derivations.{covers, alive, trips}

@@ -1,8 +1,10 @@
 -- Where a tree without scopes has covered a stretch, one of its last places stood before the stretch's last vector.
-use Rattle.std.proofs.Common.{◌≡◌, ℕ, suc, ◌+◌, ◌-◌, ◌<◌, ◌≤◌, Bool, true, ◌&&◌, ◌||◌, ◌↔◌, nat_eq, List, slice_index, inl, inr, refl, sym, ◌∙◌, ap, arith}
+use Rattle.std.proofs.Common.{◌≡◌, ℕ, suc, ◌+◌, ◌-◌, ◌<◌, ◌≤◌, Bool, true, ◌&&◌, ◌||◌, ◌↔◌, nat_eq, List, slice_index}
+use Rattle.std.proofs.Common.{inl, inr, refl, sym, ◌∙◌, ap, arith}
 use Rattle.std.proofs.lemmas.Bool.{and_parts, and_from, false≢true, eqb-true, eq-eqb, cases_lt, or_left, or_right}
 use Rattle.bool_terms.specs.Terms.{holds}
-use Rattle.pbs_ast.specs.Trees.{Tree, Empty, Terminal, Action, Seq, Choice, Star, Hold, Scope, nullable, has_place, has_no_scope, is_last, fits}
+use Rattle.pbs_ast.specs.Trees.{Tree, Empty, Terminal, Action, Seq, Choice, Star, Hold, Scope, nullable, has_place}
+use Rattle.pbs_ast.specs.Trees.{has_no_scope, is_last, fits}
 use Rattle.pbs_derive.proofs.Shapes.{PlacesOnce}
 use Rattle.pbs_derive.specs.Derivations.{covers, stands, all_hold}
 use Rattle.pbs_derive.proofs.Positions.{split_to, split_from, or_elim, all_hold_to, all_hold_from}

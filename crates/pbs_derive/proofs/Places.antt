@@ -3,7 +3,8 @@ use Rattle.std.proofs.Common.{◌≡◌, ℕ, ◌<◌, ◌≤◌, Bool, true, no
 use Rattle.std.proofs.lemmas.Bool.{and_parts, and_from, false≢true, eq-eqb, or_left, or_right}
 use Rattle.pbs_ast.specs.Trees.{Tree, Empty, Terminal, Action, Seq, Choice, Star, Hold, Scope}
 use Rattle.pbs_derive.specs.Derivations.{first_after, IsAbort, covers, alive, stands, trips, some_after}
-use Rattle.pbs_derive.proofs.Positions.{split_to, split_from, or_elim, after_from, first_to, first_from, first_of, first_once}
+use Rattle.pbs_derive.proofs.Positions.{split_to, split_from, or_elim, after_from, first_to, first_from, first_of}
+use Rattle.pbs_derive.proofs.Positions.{first_once}
 
 abbrev pub SomeStands : Tree → List ℕ → ℕ → ℕ → Type 0
 SomeStands e v i k = (p : ℕ) × (stands e v i k p ≡ true)

@@ -1,6 +1,8 @@
 -- Positions that pass a test: what the bounded tests of the definitions mean, and when two of them are equal.
-use Rattle.std.proofs.Common.{◌≡◌, ℕ, zero, suc, ◌+◌, ◌-◌, ◌<◌, ◌≤◌, Bool, true, false, not, ◌&&◌, ◌||◌, nat_lt, nat_le, eqb, List, slice_index, inl, inr, refl, sym, ◌∙◌, ap, arith}
-use Rattle.std.proofs.lemmas.Bool.{and_parts, and_from, or_left, or_right, false≢true, ltb-true, leb-true, eqb-true, lt-ltb, le-leb, eq-eqb, cases_Bool, cases_lt, both_ways}
+use Rattle.std.proofs.Common.{◌≡◌, ℕ, zero, suc, ◌+◌, ◌-◌, ◌<◌, ◌≤◌, Bool, true, false, not, ◌&&◌, ◌||◌, nat_lt, nat_le}
+use Rattle.std.proofs.Common.{eqb, List, slice_index, inl, inr, refl, sym, ◌∙◌, ap, arith}
+use Rattle.std.proofs.lemmas.Bool.{and_parts, and_from, or_left, or_right, false≢true, ltb-true, leb-true, eqb-true}
+use Rattle.std.proofs.lemmas.Bool.{lt-ltb, le-leb, eq-eqb, cases_Bool, cases_lt, both_ways}
 use Rattle.bool_terms.specs.Terms.{Term, holds}
 use Rattle.pbs_derive.specs.Derivations.{some_below, some_within, some_after, first_after, all_hold, SameTo}
 

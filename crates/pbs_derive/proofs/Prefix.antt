@@ -3,7 +3,8 @@ use Rattle.std.proofs.Common.{◌≡◌, ℕ, ◌+◌, ◌-◌, ◌≤◌, not, 
 use Rattle.std.proofs.lemmas.Bool.{eqb-true}
 use Rattle.bool_terms.specs.Terms.{holds}
 use Rattle.pbs_ast.specs.Trees.{Tree, Empty, Terminal, Action, Seq, Choice, Star, Hold, Scope}
-use Rattle.pbs_derive.specs.Derivations.{SameTo, IsAbort, NoOverlapBelow, covers, alive, stands, fires, live, trips, some_after, repeats}
+use Rattle.pbs_derive.specs.Derivations.{SameTo, IsAbort, NoOverlapBelow, covers, alive, stands, fires, live, trips}
+use Rattle.pbs_derive.specs.Derivations.{some_after, repeats}
 use Rattle.pbs_derive.proofs.Positions.{or_same, and_same, and_where, within_same, after_same, first_same, hold_same}
 use Rattle.pbs_derive.proofs.Repeats.{repeats_same}
 

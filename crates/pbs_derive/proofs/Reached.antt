@@ -1,10 +1,14 @@
 -- Standing places and firing actions are marked leaves that are reached; what reaches one was alive before.
-use Rattle.std.proofs.Common.{◌≡◌, ℕ, ◌-◌, ◌<◌, ◌≤◌, Bool, true, false, not, ◌&&◌, ◌||◌, nat_eq, List, inl, inr, refl, ◌∙◌, ap, arith}
+use Rattle.std.proofs.Common.{◌≡◌, ℕ, ◌-◌, ◌<◌, ◌≤◌, Bool, true, false, not, ◌&&◌, ◌||◌, nat_eq, List, inl, inr, refl}
+use Rattle.std.proofs.Common.{◌∙◌, ap, arith}
 use Rattle.std.proofs.Math.Path.{fun_ext}
 use Rattle.std.proofs.lemmas.Bool.{and_parts, and_from, false≢true, eqb-true, cases_lt, or_left, or_right}
-use Rattle.pbs_ast.specs.Trees.{Tree, Empty, Terminal, Action, Seq, Choice, Star, Hold, Scope, is_place, is_action, is_plain}
-use Rattle.pbs_derive.specs.Derivations.{covers, alive, stands, fires, trips, some_after, some_within, first_after, all_hold, repeats}
-use Rattle.pbs_derive.proofs.Positions.{split_to, split_from, or_elim, or_same, and_same, first_to, first_from, none_to, none_from, all_hold_to, all_hold_from}
+use Rattle.pbs_ast.specs.Trees.{Tree, Empty, Terminal, Action, Seq, Choice, Star, Hold, Scope, is_place, is_action}
+use Rattle.pbs_ast.specs.Trees.{is_plain}
+use Rattle.pbs_derive.specs.Derivations.{covers, alive, stands, fires, trips, some_after, some_within, first_after}
+use Rattle.pbs_derive.specs.Derivations.{all_hold, repeats}
+use Rattle.pbs_derive.proofs.Positions.{split_to, split_from, or_elim, or_same, and_same, first_to, first_from, none_to}
+use Rattle.pbs_derive.proofs.Positions.{none_from, all_hold_to, all_hold_from}
 use Rattle.pbs_derive.proofs.Shapes.{WellFormed}
 use Rattle.pbs_derive.proofs.Stretches.{lasts, star_alive, star_from}
 

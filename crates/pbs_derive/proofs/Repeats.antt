@@ -1,5 +1,6 @@
 -- Stretches that follow one another: the number of them, the first and the last.
-use Rattle.std.proofs.Common.{◌≡◌, ℕ, zero, suc, ◌-◌, ◌<◌, ◌≤◌, Bool, true, ◌&&◌, ◌||◌, ◌⊎◌, nat_eq, inl, inr, refl, sym, ◌∙◌, ap, arith}
+use Rattle.std.proofs.Common.{◌≡◌, ℕ, zero, suc, ◌-◌, ◌<◌, ◌≤◌, Bool, true, ◌&&◌, ◌||◌, ◌⊎◌, nat_eq, inl, inr, refl}
+use Rattle.std.proofs.Common.{sym, ◌∙◌, ap, arith}
 use Rattle.std.proofs.lemmas.Bool.{and_parts, and_from, eqb-true, eq-eqb, or_left, or_right}
 use Rattle.pbs_derive.specs.Derivations.{repeats, some_after}
 use Rattle.pbs_derive.proofs.Positions.{or_elim, or_same, and_same, same_test, after_to, after_from, after_same}

@@ -1,7 +1,8 @@
 -- What the rules on scopes and places give the laws: the same facts as types, part by part.
 use Rattle.std.proofs.Common.{◌≡◌, ℕ, ◌+◌, ◌<◌, ◌≤◌, true, ◌||◌, IsTrue, arith}
 use Rattle.std.proofs.lemmas.Bool.{and_parts, false≢true, eqb-true}
-use Rattle.pbs_ast.specs.Trees.{Tree, Empty, Terminal, Action, Seq, Choice, Star, Hold, Scope, has_place, has_terminal, is_plain}
+use Rattle.pbs_ast.specs.Trees.{Tree, Empty, Terminal, Action, Seq, Choice, Star, Hold, Scope, has_place, has_terminal}
+use Rattle.pbs_ast.specs.Trees.{is_plain}
 use Rattle.pbs_ast.specs.Sound.{place_count, places_from, scopes_right}
 use Rattle.pbs_derive.proofs.Positions.{or_elim}
 

@@ -1,5 +1,6 @@
 -- Each node's step gives the tables of the tree.
-use Rattle.std.proofs.Common.{◌≡◌, ℕ, zero, suc, ◌+◌, ◌-◌, ◌<◌, ◌≤◌, Bool, not, ◌&&◌, ◌||◌, List, [], ◌∷◌, length, map, refl, sym, ap, ◌∙◌, arith, nat_eq, nat_le, slice_index}
+use Rattle.std.proofs.Common.{◌≡◌, ℕ, zero, suc, ◌+◌, ◌-◌, ◌<◌, ◌≤◌, Bool, not, ◌&&◌, ◌||◌, List, [], ◌∷◌, length, map}
+use Rattle.std.proofs.Common.{refl, sym, ap, ◌∙◌, arith, nat_eq, nat_le, slice_index}
 use Rattle.std.specs.Prelude.{Result, Ok, Err, IfOk}
 use Rattle.std.proofs.lemmas.Result.{IfOk-weaker, IfOk-at_ok}
 use Rattle.pbs_base.specs.declared.fail.Memory.{Memory}
@@ -7,12 +8,15 @@ use Rattle.bool_terms.specs.Terms.{Term, holds}
 use Rattle.pbs_ast.specs.Trees.{Tree, Spot}
 use Rattle.pbs_ast.specs.Trees as tree
 use Rattle.pbs_derive.specs.Derivations.{covers, alive, all_hold, repeats, some_within, some_after, first_after}
-use Rattle.pbs_derive.specs.Tables.{result_map, result_map2, entry, at, joint, throughout, trips_at, aborted, IsTables, IsStep, IsStepOk, terminal_step_of, seq_step_of, choice_step_of, star_step_of, hold_step_of, scope_step_of}
+use Rattle.pbs_derive.specs.Tables.{result_map, result_map2, entry, at, joint, throughout, trips_at, aborted, IsTables}
+use Rattle.pbs_derive.specs.Tables.{IsStep, IsStepOk, terminal_step_of, seq_step_of, choice_step_of, star_step_of}
+use Rattle.pbs_derive.specs.Tables.{hold_step_of, scope_step_of}
 use Rattle.pbs_derive.specs.declared.step.Tables.{Tables}
 use Rattle.pbs_derive.specs.declared.step.Step.{Step}
 use Rattle.pbs_derive.specs.declared.step.Step.TheVariants as step
 use Rattle.std.proofs.lemmas.Bool.{or_left, eqb-true, eq-eqb}
-use Rattle.pbs_derive.proofs.Positions.{and_where, and_same, below_same, within_same, after_same, first_same, within_next}
+use Rattle.pbs_derive.proofs.Positions.{and_where, and_same, below_same, within_same, after_same, first_same}
+use Rattle.pbs_derive.proofs.Positions.{within_next}
 
 entry-map : (f : ℕ → Bool) (v : List ℕ) (k : ℕ) → k < length v → entry (map f v) k ≡ f (slice_index v k)
 entry-map f [] k h = absurd (omega arith)

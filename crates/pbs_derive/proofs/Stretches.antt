@@ -3,7 +3,8 @@ use Rattle.std.proofs.Common.{◌≡◌, ℕ, zero, suc, ◌+◌, ◌-◌, ◌<�
 use Rattle.std.proofs.lemmas.Bool.{and_parts, and_from, eqb-true, eq-eqb, cases_lt, or_left, or_right}
 use Rattle.pbs_ast.specs.Trees.{Spot, Tree, Empty, Terminal, Action, Seq, Choice, Star, Hold, Scope}
 use Rattle.pbs_derive.specs.Derivations.{covers, alive, trips, repeats}
-use Rattle.pbs_derive.proofs.Positions.{split_to, split_from, or_elim, after_to, first_to, first_from, none_to, none_from, all_hold_to, all_hold_from}
+use Rattle.pbs_derive.proofs.Positions.{split_to, split_from, or_elim, after_to, first_to, first_from, none_to}
+use Rattle.pbs_derive.proofs.Positions.{none_from, all_hold_to, all_hold_from}
 use Rattle.pbs_derive.proofs.Repeats.{Repeats, repeats_first, repeats_none, repeats_order, repeats_from}
 
 -- what is covered doesn't end before it begins

@@ -1,6 +1,7 @@
 -- Derivations: what a tree covers, when it is alive, which places stand, which actions fire and which scopes are live.
 -- v is a list of vectors. Position k is after its first k vectors, and the stretch [i,j) has its vectors i to j-1.
-use Rattle.std.specs.Prelude.{◌≡◌, ℕ, zero, suc, ◌+◌, ◌-◌, ◌<◌, Bool, true, false, not, ◌&&◌, ◌||◌, nat_eq, nat_lt, nat_le, List, length, slice_index}
+use Rattle.std.specs.Prelude.{◌≡◌, ℕ, zero, suc, ◌+◌, ◌-◌, ◌<◌, Bool, true, false, not, ◌&&◌, ◌||◌, nat_eq, nat_lt}
+use Rattle.std.specs.Prelude.{nat_le, List, length, slice_index}
 use Rattle.bool_terms.specs.Terms.{Term, holds}
 use Rattle.pbs_ast.specs.Trees.{Tree, Empty, Terminal, Action, Seq, Choice, Star, Hold, Scope}
 

@@ -1,5 +1,6 @@
 -- Tables of what a tree covers and where it is alive, for a run of n vectors.
-use Rattle.std.specs.Prelude.{◌≡◌, ℕ, ◌+◌, ◌-◌, ◌≤◌, Bool, false, not, ◌&&◌, ◌||◌, nat_eq, nat_le, List, [], length, Option, Some, None, slice_get, Result, Ok, Err}
+use Rattle.std.specs.Prelude.{◌≡◌, ℕ, ◌+◌, ◌-◌, ◌≤◌, Bool, false, not, ◌&&◌, ◌||◌, nat_eq, nat_le, List, [], length}
+use Rattle.std.specs.Prelude.{Option, Some, None, slice_get, Result, Ok, Err}
 use Rattle.pbs_base.specs.declared.fail.Memory.{Memory}
 use Rattle.pbs_ast.specs.Trees.{Tree}
 use Rattle.pbs_derive.specs.Derivations.{covers, alive, some_below, some_within, some_after, first_after}

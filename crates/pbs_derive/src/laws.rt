@@ -1,11 +1,13 @@
 //! The laws of derivations. Each is a function that does nothing, and its clauses are the law.
 
-ghost use Rattle.std.specs.Prelude.{◌≡◌, ◌<◌, ◌≤◌, ◌↔◌, ◌+◌, ◌-◌, ◌&&◌, ◌||◌, Bool, IsTrue, List, nat_eq, slice_index, true, ℕ};
+ghost use Rattle.std.specs.Prelude.{◌≡◌, ◌<◌, ◌≤◌, ◌↔◌, ◌+◌, ◌-◌, ◌&&◌, ◌||◌, Bool, IsTrue, List, nat_eq, slice_index};
+ghost use Rattle.std.specs.Prelude.{true, ℕ};
 ghost use Rattle.pbs_ast.specs.Trees.{Spot, Star, Tree, fits, has_no_scope, has_terminal, is_last, nullable};
 ghost use Rattle.pbs_ast.specs.Sound.{places_from, scopes_right};
 ghost use Rattle.pbs_ast.specs.Repeats.{blank, filled, repeated};
 ghost use Rattle.pbs_derive.specs.Turns.{CoverInTurn};
-ghost use Rattle.pbs_derive.specs.Derivations.{IsAbort, NoOverlapBelow, SameTo, alive, covers, fires, first_after, live, some_after, stands, trips};
+ghost use Rattle.pbs_derive.specs.Derivations.{IsAbort, NoOverlapBelow, SameTo, alive, covers, fires, first_after};
+ghost use Rattle.pbs_derive.specs.Derivations.{live, some_after, stands, trips};
 
 /// What is alive at a position was alive at each position before it.
 pub fn alive_before()

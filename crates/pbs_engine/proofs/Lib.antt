@@ -8,3 +8,4 @@ pub mod LawLemmas
 pub mod WordLists
 pub mod SimulationLemmas
 pub mod TracingLemmas
+pub mod OutcomeLaws

@@ -8,32 +8,51 @@ use Rattle.pbs_base.specs.declared.read.ReadFail.TheVariants.{Fault, TooLong, Me
 use Rattle.pbs_base.proofs.ReadLemmas.{GoesOn-trans}
 use Rattle.pbs_engine.specs.Load.{Loads, LoadGives, HasFailed}
 
-opened_content : {T E : Type 0} (x : T) (a b : ShelfState) (slot : ℕ) (name : List ℕ) → Opens {E = E} a b slot name (Ok x) → (files : List NamedFile) → a.files ≡ Some files → (b.slots slot).left ≡ Some (content_of files name)
+opened_content : {T E : Type 0} (x : T) (a b : ShelfState) (slot : ℕ) (name : List ℕ)
+    → Opens {E = E} a b slot name (Ok x) → (files : List NamedFile) → a.files ≡ Some files
+    → (b.slots slot).left ≡ Some (content_of files name)
 opened_content x a b slot name opened files told = opened.left ∙ ap (option_map (λ all. content_of all name)) told
 
-not_opened : {T E : Type 0} (e : E) (a b : ShelfState) (slot : ℕ) (name : List ℕ) → Opens {T = T} a b slot name (Err e) → HasFailed a b name
-not_opened e a b slot name opened = record { rose = opened.cause; never = λ calm files told there. let bad = opened.never calm files told there in cc }
+not_opened : {T E : Type 0} (e : E) (a b : ShelfState) (slot : ℕ) (name : List ℕ)
+    → Opens {T = T} a b slot name (Err e) → HasFailed a b name
+not_opened e a b slot name opened = record {
+  rose = opened.cause;
+  never = λ calm files told there. let bad =
+      opened.never calm files told there in cc;
+}
 
-pub load_not_opened : {T E : Type 0} (e : E) (a b : ShelfState) (slot : ℕ) (name : List ℕ) (limit : ℕ) → Opens {T = T} a b slot name (Err e) → Loads a b slot name limit (Err Fault)
-load_not_opened e a b slot name limit opened = record { goes_on = opened.goes_on; other = opened.other; gives = not_opened e a b slot name opened }
+pub load_not_opened : {T E : Type 0} (e : E) (a b : ShelfState) (slot : ℕ) (name : List ℕ) (limit : ℕ)
+    → Opens {T = T} a b slot name (Err e) → Loads a b slot name limit (Err Fault)
+load_not_opened e a b slot name limit opened = record
+    { goes_on = opened.goes_on; other = opened.other; gives = not_opened e a b slot name opened }
 
-pub load_whole : {T E U : Type 0} (x : T) (y : U) (a b c : ShelfState) (slot : ℕ) (name : List ℕ) (limit : ℕ) (out : Vec ℕ Global) → Opens {E = E} a b slot name (Ok x) → ReadsAll b c slot limit out.items (Ok y) → length out.items ≤ limit
+pub load_whole : {T E U : Type 0} (x : T) (y : U) (a b c : ShelfState) (slot : ℕ) (name : List ℕ) (limit : ℕ)
+    (out : Vec ℕ Global) → Opens {E = E} a b slot name (Ok x) → ReadsAll b c slot limit out.items (Ok y)
+    → length out.items ≤ limit
     → Loads a c slot name limit (Ok out)
 load_whole x y a b c slot name limit out opened read short = record {
   goes_on = GoesOn-trans a b c opened.goes_on read.goes_on;
   other = read.other ∙ opened.other;
-  gives = (λ files told. (read.gives (content_of files name) (opened_content x a b slot name opened files told)).0, short);
+  gives = (
+    λ files told. (read.gives (content_of files name) (opened_content x a b slot name opened files told)).0,
+    short,
+  );
 }
 
-gives_fail : {T E U : Type 0} (x : T) (a b c : ShelfState) (slot : ℕ) (name : List ℕ) (limit : ℕ) (out : List ℕ) (fail : ReadFail) → Opens {E = E} a b slot name (Ok x) → ReadsAll {T = U} b c slot limit out (Err fail) → LoadGives a c name limit (Err fail)
-gives_fail x a b c slot name limit out TooLong opened read = λ files told. (read.gives (content_of files name) (opened_content x a b slot name opened files told)).1
+gives_fail : {T E U : Type 0} (x : T) (a b c : ShelfState) (slot : ℕ) (name : List ℕ) (limit : ℕ) (out : List ℕ)
+    (fail : ReadFail) → Opens {E = E} a b slot name (Ok x) → ReadsAll {T = U} b c slot limit out (Err fail)
+    → LoadGives a c name limit (Err fail)
+gives_fail x a b c slot name limit out TooLong opened read = λ files told.
+    (read.gives (content_of files name) (opened_content x a b slot name opened files told)).1
 gives_fail x a b c slot name limit out Memory opened read = tt
 gives_fail x a b c slot name limit out Fault opened read = record {
   rose = let rose = read.cause refl in let later = opened.goes_on.later in omega arith;
   never = λ calm files told there. read.never (opened.goes_on.sound calm) opened.stands refl;
 }
 
-pub load_fails : {T E U : Type 0} (x : T) (a b c : ShelfState) (slot : ℕ) (name : List ℕ) (limit : ℕ) (out : List ℕ) (fail : ReadFail) → Opens {E = E} a b slot name (Ok x) → ReadsAll {T = U} b c slot limit out (Err fail) → Loads a c slot name limit (Err fail)
+pub load_fails : {T E U : Type 0} (x : T) (a b c : ShelfState) (slot : ℕ) (name : List ℕ) (limit : ℕ) (out : List ℕ)
+    (fail : ReadFail) → Opens {E = E} a b slot name (Ok x) → ReadsAll {T = U} b c slot limit out (Err fail)
+    → Loads a c slot name limit (Err fail)
 load_fails x a b c slot name limit out fail opened read = record {
   goes_on = GoesOn-trans a b c opened.goes_on read.goes_on;
   other = read.other ∙ opened.other;

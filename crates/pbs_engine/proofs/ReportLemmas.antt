@@ -98,7 +98,8 @@ shown_is : (g : Given) (done todo : List Entry) (sim : State) (n : ℕ) → g.en
 shown_is g done todo sim n split has less =
     let P : Circuit → Type 0 = λ c. n < length c.outputs → IsCircuit c → IsZeroRun c done g.rows
     → slice_index_or sim.gates (output_gate c n) false ≡ (g.rows (length done)).gates (output_gate c n) in
-    let own : P sim.net = λ within ok z. has.stands.gates g.rows z (output_gate sim.net n) (gate_there sim.net n ok within)
+    let own : P sim.net = λ within ok z. has.stands.gates g.rows z (output_gate sim.net n)
+    (gate_there sim.net n ok within)
     in
     ap (λ (c : Circuit). slice_index_or sim.gates (output_gate c n) false) has.same
     ∙ subst P has.same own less g.circuit
@@ -152,7 +153,8 @@ first_row a b g names lines held held_now sim on x ports empty has bits put rows
   fit = rows_are.fit;
   row_number = refl;
   has = has;
-  text = piece_held a a b (whole_of g) (row_line names 0 (is_on on)) (report_from g 1 (length g.entries)) held held_now x
+  text = piece_held a a b (whole_of g) (row_line names 0 (is_on on)) (report_from g 1 (length g.entries)) held
+      held_now x
       (first_text a g names held sim on ports empty has bits) put;
 }
 

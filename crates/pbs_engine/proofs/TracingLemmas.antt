@@ -107,7 +107,8 @@ report_same : (spec : Spec) (net : Circuit) (rows : ℕ → Row) (entries : List
 report_same spec net rows entries built controller run =
     let names = ports_of (codes "a_") (action_names spec.actions) in
     let plain = no_scope (expanded spec) (first_none (first_scope (expanded spec)) (first_level spec) built) in
-    ap (λ l. rows_text l (λ k n. output_value net (rows k) n) 0 (suc (length entries)) ++ last_line (length entries) End)
+    ap (λ l. rows_text l (λ k n. output_value net (rows k) n) 0 (suc (length entries)) ++ last_line (length entries)
+    End)
     controller.outputs_named
     ∙ ap (λ l. l ++ last_line (length entries) End)
     (rows_same names (λ k n. output_value net (rows k) n) (row_fires spec entries) 0 (suc (length entries))

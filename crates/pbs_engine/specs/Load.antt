@@ -12,12 +12,14 @@ pub record HasFailed (before now : ShelfState) (name : List ℕ) : Type 0 where
   pub never : before.sound ≡ true → ForSome before.files (λ files. has_file files name ≡ true → ⊥)
 
 abbrev pub LoadGives : ShelfState → ShelfState → List ℕ → ℕ → Result (Vec ℕ Global) ReadFail → Type 0
-LoadGives before now name limit (Ok bytes) = ForSome before.files (λ files. bytes.items ≡ content_of files name) × (length bytes.items ≤ limit)
+LoadGives before now name limit (Ok bytes) = ForSome before.files (λ files. bytes.items ≡ content_of files name) ×
+    (length bytes.items ≤ limit)
 LoadGives before now name limit (Err TooLong) = ForSome before.files (λ files. limit < length (content_of files name))
 LoadGives before now name limit (Err Fault) = HasFailed before now name
 LoadGives before now name limit (Err Memory) = ⊤
 
-pub record Loads (before now : ShelfState) (slot : ℕ) (name : List ℕ) (limit : ℕ) (result : Result (Vec ℕ Global) ReadFail) : Type 0 where
+pub record Loads (before now : ShelfState) (slot : ℕ) (name : List ℕ) (limit : ℕ)
+    (result : Result (Vec ℕ Global) ReadFail) : Type 0 where
   pub goes_on : GoesOn before now
   pub other : now.slots (1 - slot) ≡ before.slots (1 - slot)
   pub gives : LoadGives before now name limit result

@@ -1,5 +1,6 @@
 -- What a run on a trace gives, and how a call that runs ends.
-use Rattle.std.specs.Prelude.{◌≡◌, ◌⊎◌, ◌++◌, ℕ, min, Bool, true, List, [], length, Option, Some, None, Result, Ok, Err, codes}
+use Rattle.std.specs.Prelude.{◌≡◌, ◌⊎◌, ◌++◌, ℕ, min, Bool, true, List, [], length, Option, Some, None, Result, Ok, Err}
+use Rattle.std.specs.Prelude.{codes}
 use Rattle.std.specs.Option.{ForSome}
 use Rattle.std.specs.Io.KnownBytes.{append_known}
 use Rattle.pbs_base.specs.Outside.{ShelfState, SinkState, NamedFile, Rose, content_of, has_file}
@@ -67,7 +68,8 @@ pub data TextGives (text trace : List ℕ) : Outcome → Type 0 where
 
 -- ---- how a call ends
 
--- what a call has to run: from what it is told, the outcomes that it may have; and whether it has the file that it needs
+-- what a call has to run: from what it is told, the outcomes that it may have; and whether it has the file that it
+-- needs
 pub record RunTask (A : Type 0) : Type 1 where
   pub told : Option A
   pub gives : A → Outcome → Type 0

@@ -3,6 +3,7 @@ ghost use Rattle.std.specs.Prelude.{◌≡◌, List, ℕ};
 ghost use Rattle.pbs_base.specs.declared.refusal.Refusal.{Refusal};
 ghost use Rattle.pbs_ast.specs.declared.syntax.Spec.{Spec};
 ghost use Rattle.pbs_engine.specs.Accepted.{Breaks, IsAccepted, IsNotRun, IsRun};
+ghost use Rattle.pbs_engine.specs.Outcomes.{Outcome, TextGives};
 
 use pbs_check::laws::one_refusal;
 use pbs_read::one_answer;
@@ -24,4 +25,11 @@ pub fn one_run()
     ensures apart { (text : List ℕ) (a : Spec) (r : Refusal) → IsRun text a → IsNotRun text r → ⊥ }
 {
     one_check();
+}
+
+/// The text of a specification on a trace has one outcome.
+pub fn one_outcome()
+    ensures { (text trace : List ℕ) (o p : Outcome) → TextGives text trace o → TextGives text trace p → o ≡ p }
+{
+    one_run();
 }

@@ -25,23 +25,57 @@ pub record Adds (w : Walk) (c : Counters) : Type 0 where
   pub scopes : (after_visits c (visits w)).scopes ≡ c.scopes + scope_count (numbered w c)
 
 -- two parts one after the other
-ends : (v w : Walk) (c : Counters) → after_visits c (visits v ++ visits w) ≡ after_visits (after_visits c (visits v)) (visits w)
+ends : (v w : Walk) (c : Counters) → after_visits c (visits v ++ visits w) ≡ after_visits (after_visits c (visits v))
+    (visits w)
 ends v w c = after_visits-append (visits v) (visits w) c
 
 pub adds : (w : Walk) (c : Counters) → complete w ≡ true → Adds w c
 adds (Beyond span) c whole = cc
-adds (Empty span) c whole = record { counts = omega arith; nodes = omega arith; places = omega arith; scopes = omega arith }
-adds (Terminal span t) c whole = record { counts = omega arith; nodes = omega arith; places = omega arith; scopes = omega arith }
-adds (Action span a) c whole = record { counts = omega arith; nodes = omega arith; places = omega arith; scopes = omega arith }
+adds (Empty span) c whole = record {
+  counts = omega arith;
+  nodes = omega arith;
+  places = omega arith;
+  scopes = omega
+      arith;
+}
+adds (Terminal span t) c whole = record {
+  counts = omega arith;
+  nodes = omega arith;
+  places = omega arith;
+  scopes =
+      omega arith;
+}
+adds (Action span a) c whole = record {
+  counts = omega arith;
+  nodes = omega arith;
+  places = omega arith;
+  scopes =
+      omega arith;
+}
 adds (Name span w) c whole =
     let a = adds w (sum_of c name_cost) whole in
-    record { counts = omega (arith, a.counts); nodes = omega (arith, a.nodes); places = omega (arith, a.places); scopes = omega (arith, a.scopes) }
+    record {
+      counts = omega (arith, a.counts);
+      nodes = omega (arith, a.nodes);
+      places = omega (arith, a.places);
+      scopes = omega (arith, a.scopes);
+    }
 adds (Star span w) c whole =
     let a = adds w (sum_of c node_cost) whole in
-    record { counts = omega (arith, a.counts); nodes = omega (arith, a.nodes); places = omega (arith, a.places); scopes = omega (arith, a.scopes) }
+    record {
+      counts = omega (arith, a.counts);
+      nodes = omega (arith, a.nodes);
+      places = omega (arith, a.places);
+      scopes = omega (arith, a.scopes);
+    }
 adds (Hold span b w) c whole =
     let a = adds w (sum_of c (hold_cost b)) whole in
-    record { counts = omega (arith, a.counts); nodes = omega (arith, a.nodes); places = omega (arith, a.places); scopes = omega (arith, a.scopes) }
+    record {
+      counts = omega (arith, a.counts);
+      nodes = omega (arith, a.nodes);
+      places = omega (arith, a.places);
+      scopes = omega (arith, a.scopes);
+    }
 adds (Pair span Sequence v w) c whole =
     let d = sum_of c node_cost in let e = after_visits d (visits v) in
     let a = adds v d (both_true (complete v) (complete w) whole).0 in
@@ -94,7 +128,12 @@ moved test m n h e = ap test (sym e) ∙ h
 pub in_order : (w : Walk) (c : Counters) → complete w ≡ true → InOrder (numbered w c) c
 in_order (Beyond span) c whole = cc
 in_order (Empty span) c whole = record { nodes = same_number c.nodes; places = refl; scopes = refl }
-in_order (Terminal span t) c whole = record { nodes = same_number c.nodes; places = same_number c.places; scopes = refl }
+in_order (Terminal span t) c whole = record {
+  nodes = same_number c.nodes;
+  places = same_number c.places;
+  scopes =
+      refl;
+}
 in_order (Action span a) c whole = record { nodes = same_number c.nodes; places = refl; scopes = refl }
 in_order (Name span w) c whole =
     let t = numbered w (sum_of c name_cost) in
@@ -126,9 +165,12 @@ in_order (Pair span Sequence v w) c whole =
     let t = numbered v d in let u = numbered w e in
     let a = in_order v d parts.0 in let b = in_order w e parts.1 in let n = adds v d parts.0 in
     record {
-      nodes = true_both _ _ (same_number c.nodes) (true_both _ _ a.nodes (moved (nodes_from u) e.nodes (c.nodes + 1 + visit_count t) b.nodes n.nodes));
-      places = true_both _ _ (moved (places_from t) (c.places + 0) c.places a.places (omega arith)) (moved (places_from u) e.places (c.places + place_count t) b.places (omega (arith, n.places)));
-      scopes = true_both _ _ (moved (scopes_from t) (c.scopes + 0) c.scopes a.scopes (omega arith)) (moved (scopes_from u) e.scopes (c.scopes + scope_count t) b.scopes (omega (arith, n.scopes)));
+      nodes = true_both _ _ (same_number c.nodes) (true_both _ _ a.nodes
+          (moved (nodes_from u) e.nodes (c.nodes + 1 + visit_count t) b.nodes n.nodes));
+      places = true_both _ _ (moved (places_from t) (c.places + 0) c.places a.places (omega arith))
+          (moved (places_from u) e.places (c.places + place_count t) b.places (omega (arith, n.places)));
+      scopes = true_both _ _ (moved (scopes_from t) (c.scopes + 0) c.scopes a.scopes (omega arith))
+          (moved (scopes_from u) e.scopes (c.scopes + scope_count t) b.scopes (omega (arith, n.scopes)));
     }
 in_order (Pair span Choice v w) c whole =
     let d = sum_of c node_cost in let e = after_visits d (visits v) in
@@ -136,9 +178,12 @@ in_order (Pair span Choice v w) c whole =
     let t = numbered v d in let u = numbered w e in
     let a = in_order v d parts.0 in let b = in_order w e parts.1 in let n = adds v d parts.0 in
     record {
-      nodes = true_both _ _ (same_number c.nodes) (true_both _ _ a.nodes (moved (nodes_from u) e.nodes (c.nodes + 1 + visit_count t) b.nodes n.nodes));
-      places = true_both _ _ (moved (places_from t) (c.places + 0) c.places a.places (omega arith)) (moved (places_from u) e.places (c.places + place_count t) b.places (omega (arith, n.places)));
-      scopes = true_both _ _ (moved (scopes_from t) (c.scopes + 0) c.scopes a.scopes (omega arith)) (moved (scopes_from u) e.scopes (c.scopes + scope_count t) b.scopes (omega (arith, n.scopes)));
+      nodes = true_both _ _ (same_number c.nodes) (true_both _ _ a.nodes
+          (moved (nodes_from u) e.nodes (c.nodes + 1 + visit_count t) b.nodes n.nodes));
+      places = true_both _ _ (moved (places_from t) (c.places + 0) c.places a.places (omega arith))
+          (moved (places_from u) e.places (c.places + place_count t) b.places (omega (arith, n.places)));
+      scopes = true_both _ _ (moved (scopes_from t) (c.scopes + 0) c.scopes a.scopes (omega arith))
+          (moved (scopes_from u) e.scopes (c.scopes + scope_count t) b.scopes (omega (arith, n.scopes)));
     }
 in_order (Scope span v w x) c whole =
     let d = sum_of c scope_cost in let e = after_visits d (visits v) in let f = after_visits e (visits w) in
@@ -148,10 +193,18 @@ in_order (Scope span v w x) c whole =
     let a = in_order v d parts.0 in let b = in_order w e rest.0 in let g = in_order x f rest.1 in
     let n = adds v d parts.0 in let m = adds w e rest.0 in
     record {
-      nodes = true_both _ _ (same_number c.nodes) (true_both _ _ a.nodes (true_both _ _ (moved (nodes_from u) e.nodes (c.nodes + 1 + visit_count t) b.nodes n.nodes)
-          (moved (nodes_from y) f.nodes (c.nodes + 1 + visit_count t + visit_count u) g.nodes (omega (arith, n.nodes, m.nodes)))));
-      places = true_both _ _ (moved (places_from t) (c.places + 0) c.places a.places (omega arith)) (true_both _ _ (moved (places_from u) e.places (c.places + place_count t) b.places (omega (arith, n.places)))
-          (moved (places_from y) f.places (c.places + place_count t + place_count u) g.places (omega (arith, n.places, m.places))));
-      scopes = true_both _ _ (same_number c.scopes) (true_both _ _ (moved (scopes_from t) (c.scopes + 1) (1 + c.scopes) a.scopes (omega arith)) (true_both _ _ (moved (scopes_from u) e.scopes (1 + c.scopes + scope_count t) b.scopes (omega (arith, n.scopes)))
-          (moved (scopes_from y) f.scopes (1 + c.scopes + scope_count t + scope_count u) g.scopes (omega (arith, n.scopes, m.scopes)))));
+      nodes = true_both _ _ (same_number c.nodes) (true_both _ _ a.nodes
+          (true_both _ _ (moved (nodes_from u) e.nodes (c.nodes + 1 + visit_count t) b.nodes n.nodes)
+          (moved (nodes_from y) f.nodes (c.nodes + 1 + visit_count t + visit_count u) g.nodes
+          (omega (arith, n.nodes, m.nodes)))));
+      places = true_both _ _ (moved (places_from t) (c.places + 0) c.places a.places (omega arith))
+          (true_both _ _ (moved (places_from u) e.places (c.places + place_count t) b.places (omega (arith, n.places)))
+          (moved (places_from y) f.places (c.places + place_count t + place_count u) g.places
+          (omega (arith, n.places, m.places))));
+      scopes = true_both _ _ (same_number c.scopes)
+          (true_both _ _ (moved (scopes_from t) (c.scopes + 1) (1 + c.scopes) a.scopes (omega arith))
+          (true_both _ _ (moved (scopes_from u) e.scopes (1 + c.scopes + scope_count t) b.scopes
+          (omega (arith, n.scopes)))
+          (moved (scopes_from y) f.scopes (1 + c.scopes + scope_count t + scope_count u) g.scopes
+          (omega (arith, n.scopes, m.scopes)))));
     }

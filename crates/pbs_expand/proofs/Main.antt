@@ -13,14 +13,16 @@ use Rattle.pbs_expand.specs.Counting.{IsWithin}
 use Rattle.pbs_expand.specs.Parts.{Whole}
 use Rattle.pbs_expand.specs.Outcomes.{Grown, Over, outcome}
 use Rattle.pbs_expand.specs.Visits.{visits, after_visits, first_over, numbered}
-use Rattle.pbs_expand.specs.Expanded.{nothing_yet, main_walk, expanded, over_limit, over_width, refused, refusal, first_refusal}
+use Rattle.pbs_expand.specs.Expanded.{nothing_yet, main_walk, expanded, over_limit, over_width, refused, refusal}
+use Rattle.pbs_expand.specs.Expanded.{first_refusal}
 use Rattle.pbs_expand.specs.Wide.{first_too_wide}
 use Rattle.pbs_expand.proofs.WideLemmas.{wide}
 use Rattle.pbs_expand.proofs.VisitLaws.{outcome_is, outcome_of}
 use Rattle.pbs_expand.proofs.Limits.{adds, in_order}
 use Rattle.pbs_expand.proofs.Counted.{none_over, shallow, ranged, acted}
 
-grown_is : (o : Option Span) (t u : Tree) (c d : Counters) → Grown u d ≡ outcome_of o t c → (o ≡ None) × (t ≡ u) × (c ≡ d)
+grown_is : (o : Option Span) (t u : Tree) (c d : Counters) → Grown u d ≡ outcome_of o t c
+    → (o ≡ None) × (t ≡ u) × (c ≡ d)
 grown_is None t u c d h = (refl, cc, cc)
 grown_is (Some span) t u c d h = cc
 
@@ -35,10 +37,12 @@ pub record Makes (spec : Spec) (t : Tree) : Type 0 where
   pub counted : IsCounted t
   pub named : NamesDeclared spec t
 
-pub makes : (spec : Spec) (t : Tree) (d : Counters) → length (input_names spec.inputs) ≤ 64 → outcome (main_walk spec) nothing_yet ≡ Grown t d → IsWithin d → Makes spec t
+pub makes : (spec : Spec) (t : Tree) (d : Counters) → length (input_names spec.inputs) ≤ 64
+    → outcome (main_walk spec) nothing_yet ≡ Grown t d → IsWithin d → Makes spec t
 makes spec t d few grown within =
     let w = main_walk spec in
-    let all = grown_is (first_over nothing_yet (visits w)) (numbered w nothing_yet) t (after_visits nothing_yet (visits w)) d (sym grown ∙ outcome_is w nothing_yet) in
+    let all = grown_is (first_over nothing_yet (visits w)) (numbered w nothing_yet) t
+    (after_visits nothing_yet (visits w)) d (sym grown ∙ outcome_is w nothing_yet) in
     let whole = none_over w nothing_yet all.0 in
     let a = adds w nothing_yet whole in
     let n = in_order w nothing_yet whole in
@@ -56,26 +60,33 @@ makes spec t d few grown within =
     } in
     let named : NamesDeclared spec (numbered w nothing_yet) = record {
       inputs = ranged (length (input_names spec.inputs)) spec 256 (omega arith) (Whole spec.main) nothing_yet;
-      actions = acted (length spec.actions) spec 256 (omega (arith, length-map spec.actions (λ (d : Decl). d.name))) (Whole spec.main) nothing_yet;
+      actions = acted (length spec.actions) spec 256 (omega (arith, length-map spec.actions (λ (d : Decl). d.name)))
+          (Whole spec.main) nothing_yet;
     } in
     let Q : Tree → Type 0 = NamesDeclared spec in
     record { no_limit = all.0; is = sym all.1; counted = subst P all.1 counted; named = subst Q all.1 named }
 
-pub stops : (spec : Spec) (span : Span) → outcome (main_walk spec) nothing_yet ≡ Over span → refusal spec ≡ Some (refused 12 span)
+pub stops : (spec : Spec) (span : Span) → outcome (main_walk spec) nothing_yet ≡ Over span
+    → refusal spec ≡ Some (refused 12 span)
 stops spec span over =
     let w = main_walk spec in
-    let h = over_is (first_over nothing_yet (visits w)) (numbered w nothing_yet) (after_visits nothing_yet (visits w)) span (sym over ∙ outcome_is w nothing_yet) in
+    let h = over_is (first_over nothing_yet (visits w)) (numbered w nothing_yet) (after_visits nothing_yet (visits w))
+    span (sym over ∙ outcome_is w nothing_yet) in
     ap (λ o. first_refusal o (over_width spec)) h
 
 -- what the first wide place says of rule 13
-narrow_is : (spec : Spec) (t : Tree) → t ≡ expanded spec → over_limit spec ≡ None → IsCounted t → first_refusal None (first_wide 0 t) ≡ refusal spec
+narrow_is : (spec : Spec) (t : Tree) → t ≡ expanded spec → over_limit spec ≡ None → IsCounted t
+    → first_refusal None (first_wide 0 t) ≡ refusal spec
 narrow_is spec t is no_limit counted =
-    ap (first_refusal None) (wide t counted.inputs ∙ ap first_too_wide is) ∙ ap (λ o. first_refusal o (over_width spec)) (sym no_limit)
+    ap (first_refusal None) (wide t counted.inputs ∙ ap first_too_wide is)
+    ∙ ap (λ o. first_refusal o (over_width spec)) (sym no_limit)
 
-pub widens : (spec : Spec) (t : Tree) (o : Option Span) (span : Span) → t ≡ expanded spec → over_limit spec ≡ None → IsCounted t → o ≡ first_wide 0 t → o ≡ Some span → refusal spec ≡ Some (refused 13 span)
+pub widens : (spec : Spec) (t : Tree) (o : Option Span) (span : Span) → t ≡ expanded spec → over_limit spec ≡ None
+    → IsCounted t → o ≡ first_wide 0 t → o ≡ Some span → refusal spec ≡ Some (refused 13 span)
 widens spec t o span is no_limit counted first found =
     sym (narrow_is spec t is no_limit counted) ∙ ap (first_refusal None) (sym first ∙ found)
 
-pub passes : (spec : Spec) (t : Tree) (o : Option Span) → t ≡ expanded spec → over_limit spec ≡ None → IsCounted t → o ≡ first_wide 0 t → o ≡ None → refusal spec ≡ None
+pub passes : (spec : Spec) (t : Tree) (o : Option Span) → t ≡ expanded spec → over_limit spec ≡ None → IsCounted t
+    → o ≡ first_wide 0 t → o ≡ None → refusal spec ≡ None
 passes spec t o is no_limit counted first none =
     sym (narrow_is spec t is no_limit counted) ∙ ap (first_refusal None) (sym first ∙ none)

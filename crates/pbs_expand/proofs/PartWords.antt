@@ -7,7 +7,8 @@ use Rattle.pbs_ast.specs.declared.syntax.Spec.{Spec}
 use Rattle.pbs_rules.specs.Forms.{Form, form, Stands}
 use Rattle.pbs_rules.specs.Reach.{MayBeEmpty, HasTerminal, HasAction, HasScope}
 use Rattle.pbs_expand.specs.declared.parts.Pairing.TheVariants.{Sequence, Choice}
-use Rattle.pbs_expand.specs.Parts.{Part, Whole, Run, Nothing, Starred, Copies, UpTo, Further, Shape, Empty, Terminal, Action, Name, Star, Hold, Pair, Scope}
+use Rattle.pbs_expand.specs.Parts.{Part, Whole, Run, Nothing, Starred, Copies, UpTo, Further, Shape, Empty, Terminal}
+use Rattle.pbs_expand.specs.Parts.{Action, Name, Star, Hold, Pair, Scope}
 
 -- the part may be empty
 abbrev pub PartMay : List Prod → Part → Type 0

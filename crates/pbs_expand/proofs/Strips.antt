@@ -1,5 +1,6 @@
 -- An expression that is visited for another, which holds it alone.
-use Rattle.std.proofs.Common.{◌≡◌, ℕ, Bool, true, false, List, [], ◌∷◌, refl, sym, ap, subst, ◌∙◌, ◌⊎◌, inl, inr, nat_eq, arith}
+use Rattle.std.proofs.Common.{◌≡◌, ℕ, Bool, true, false, List, [], ◌∷◌, refl, sym, ap, subst, ◌∙◌, ◌⊎◌, inl, inr}
+use Rattle.std.proofs.Common.{nat_eq, arith}
 use Rattle.std.specs.Prelude.{if◌then◌else◌}
 use Rattle.std.proofs.lemmas.Bool.Decides.{nat_tests}
 use Rattle.pbs_base.specs.declared.refusal.Span.{Span}
@@ -28,9 +29,11 @@ choice_gives : (d e : Expr) (items : List Expr) → form e ≡ Choice items → 
 choice_gives d e items is (inl same) = let P : Expr → Type 0 = λ z. IsOnly d z in subst P same Same
 choice_gives d e items is (inr (x, one, only)) = OfChoice (is ∙ ap Choice one) only
 
-one_gives : (d e x : Expr) (m n : ℕ) (b c : Bool) → form e ≡ Repeat x m n → nat_eq m 1 ≡ b → d ≡ (if b then (if c then stripped x else e) else e) → IsOnly (stripped x) x → IsOnly d e
+one_gives : (d e x : Expr) (m n : ℕ) (b c : Bool) → form e ≡ Repeat x m n → nat_eq m 1 ≡ b
+    → d ≡ (if b then (if c then stripped x else e) else e) → IsOnly (stripped x) x → IsOnly d e
 one_gives d e x m n true true is one same only =
-    let first : m ≡ 1 = grind (arith, nat_tests) in let P : Expr → Type 0 = λ z. IsOnly z e in subst P (sym same) (OfOne is first only)
+    let first : m ≡ 1 = grind (arith, nat_tests) in let P : Expr
+    → Type 0 = λ z. IsOnly z e in subst P (sym same) (OfOne is first only)
 one_gives d e x m n true false is one same only = let P : Expr → Type 0 = λ z. IsOnly z e in subst P (sym same) Same
 one_gives d e x m n false c is one same only = let P : Expr → Type 0 = λ z. IsOnly z e in subst P (sym same) Same
 
@@ -40,9 +43,11 @@ abbrev mutual
   only_from span (kind.Terminal t) = Same
   only_from span (kind.Action name at) = Same
   only_from span (kind.Seq' n row) =
-      let e = expr_of span (kind.Seq' n row) in seq_gives (stripped_row e row) e (items-the_row-Expr _ row) refl (row_gives e _ row)
+      let e = expr_of span (kind.Seq' n row) in seq_gives (stripped_row e row) e (items-the_row-Expr _ row) refl
+      (row_gives e _ row)
   only_from span (kind.Choice' n row) =
-      let e = expr_of span (kind.Choice' n row) in choice_gives (stripped_row e row) e (items-the_row-Expr _ row) refl (row_gives e _ row)
+      let e = expr_of span (kind.Choice' n row) in choice_gives (stripped_row e row) e (items-the_row-Expr _ row) refl
+      (row_gives e _ row)
   only_from span (kind.Star' _ s e) = Same
   only_from span (kind.Plus' _ s e) = Same
   only_from span (kind.Opt' _ s e) = Same
@@ -51,9 +56,11 @@ abbrev mutual
   only_from span (kind.Name name) = Same
   only_from span (kind.Repeat' p s e m n) =
       let all = expr_of span (kind.Repeat' p s e m n) in
-      one_gives (stripped_from span (kind.Repeat' p s e m n)) all (expr_of s e) m n (nat_eq m 1) (nat_eq n 1) refl refl refl (only_from s e)
+      one_gives (stripped_from span (kind.Repeat' p s e m n)) all (expr_of s e) m n (nat_eq m 1) (nat_eq n 1) refl
+      refl refl (only_from s e)
 
-  row_gives : (all : Expr) (n : _) (row : Row_of-Expr n) → RowGives (stripped_row all row) all (items-the_row-Expr n row)
+  row_gives : (all : Expr) (n : _) (row : Row_of-Expr n)
+      → RowGives (stripped_row all row) all (items-the_row-Expr n row)
   row_gives all n end_of-Expr = inl refl
   row_gives all n (more_of-Expr s e end_of-Expr) = inr (expr_of s e, refl, only_from s e)
   row_gives all n (more_of-Expr s e (more_of-Expr s' f rest)) = inl refl

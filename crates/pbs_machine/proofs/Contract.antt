@@ -1,8 +1,10 @@
 -- What each node of the machine keeps, and the nodes without scopes.
-use Rattle.std.proofs.Common.{◌≡◌, ℕ, zero, suc, ◌+◌, ◌<◌, ◌≤◌, Bool, true, not, ◌&&◌, ◌||◌, nat_eq, List, slice_index, ◌⊎◌, inl, inr, refl, sym, ◌∙◌, ap, arith, ◌↔◌}
+use Rattle.std.proofs.Common.{◌≡◌, ℕ, zero, suc, ◌+◌, ◌<◌, ◌≤◌, Bool, true, not, ◌&&◌, ◌||◌, nat_eq, List, slice_index}
+use Rattle.std.proofs.Common.{◌⊎◌, inl, inr, refl, sym, ◌∙◌, ap, arith, ◌↔◌}
 use Rattle.std.proofs.lemmas.Bool.{and_parts, and_from, false≢true, eqb-true, eq-eqb, or_left, or_right}
 use Rattle.bool_terms.specs.Terms.{Term, holds}
-use Rattle.pbs_ast.specs.Trees.{Spot, Tree, Empty, Terminal, Action, Seq, Choice, Star, Hold, Scope, nullable, has_terminal}
+use Rattle.pbs_ast.specs.Trees.{Spot, Tree, Empty, Terminal, Action, Seq, Choice, Star, Hold, Scope, nullable}
+use Rattle.pbs_ast.specs.Trees.{has_terminal}
 use Rattle.pbs_derive.specs.Derivations.{covers, alive, live, all_hold}
 use Rattle.pbs_derive.proofs.Reached.{reaches}
 use Rattle.pbs_machine.specs.Nodes.{From, ClearBelow}

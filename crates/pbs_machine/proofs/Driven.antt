@@ -1,8 +1,10 @@
 -- Signals over the rows of a stretch without resets.
-use Rattle.std.proofs.Common.{◌≡◌, ℕ, zero, suc, Bool, true, false, not, ◌&&◌, ◌||◌, nat_eq, List, slice_index, refl, ◌∙◌, ap}
+use Rattle.std.proofs.Common.{◌≡◌, ℕ, zero, suc, Bool, true, false, not, ◌&&◌, ◌||◌, nat_eq, List, slice_index, refl}
+use Rattle.std.proofs.Common.{◌∙◌, ap}
 use Rattle.std.proofs.lemmas.Bool.{and_parts, eq-eqb, or_left, or_right}
 use Rattle.bool_terms.specs.Terms.{holds}
-use Rattle.pbs_ast.specs.Trees.{Tree, Empty, Terminal, Action, Seq, Choice, Star, Hold, Scope, has_place, is_place, nullable}
+use Rattle.pbs_ast.specs.Trees.{Tree, Empty, Terminal, Action, Seq, Choice, Star, Hold, Scope, has_place, is_place}
+use Rattle.pbs_ast.specs.Trees.{nullable}
 use Rattle.pbs_machine.specs.Rows.{ends, stays, started, right_start, body_start}
 use Rattle.pbs_derive.proofs.Shapes.{PlacesOnce}
 use Rattle.pbs_derive.proofs.Positions.{or_elim}

@@ -10,7 +10,8 @@ use Rattle.pbs_derive.proofs.Reached.{stands_reached, fires_reached}
 use Rattle.pbs_machine.specs.Nodes.{IsNodeRun, IsRight}
 use Rattle.pbs_machine.proofs.Driven.{Driven, driven}
 use Rattle.pbs_machine.proofs.Starts.{from_map}
-use Rattle.pbs_machine.proofs.Contract.{ends_outer, stays_outer, Meets, meets_empty, meets_action, meets_terminal, meets_choice, meets_hold, with_hold}
+use Rattle.pbs_machine.proofs.Contract.{ends_outer, stays_outer, Meets, meets_empty, meets_action, meets_terminal}
+use Rattle.pbs_machine.proofs.Contract.{meets_choice, meets_hold, with_hold}
 use Rattle.pbs_machine.proofs.Sequences.{second_start, meets_seq}
 use Rattle.pbs_machine.proofs.Stars.{again_start, meets_star}
 use Rattle.pbs_machine.proofs.Scopes.{body_keep, trap_keep, after_start}

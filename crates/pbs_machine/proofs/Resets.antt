@@ -1,5 +1,6 @@
 -- The controller over runs with resets.
-use Rattle.std.proofs.Common.{◌≡◌, ℕ, zero, suc, ◌+◌, ◌<◌, ◌≤◌, Bool, true, false, not, ◌&&◌, List, [], ◌∷◌, ◌++◌, length, Option, Some, None, slice_index, refl, sym, ap, ◌∙◌, subst, arith, length-append}
+use Rattle.std.proofs.Common.{◌≡◌, ℕ, zero, suc, ◌+◌, ◌<◌, ◌≤◌, Bool, true, false, not, ◌&&◌, List, [], ◌∷◌, ◌++◌}
+use Rattle.std.proofs.Common.{length, Option, Some, None, slice_index, refl, sym, ap, ◌∙◌, subst, arith, length-append}
 use Rattle.std.specs.Prelude.{slice_get}
 use Rattle.std.proofs.Math.Path.{fun_ext}
 use Rattle.std.proofs.Math.Seq.{get_or-append_seam}
@@ -10,7 +11,8 @@ use Rattle.bool_terms.specs.Terms.{holds}
 use Rattle.pbs_base.specs.declared.entry.Entry.{Entry}
 use Rattle.pbs_base.specs.declared.entry.Entry.TheVariants.{Vector, Reset}
 use Rattle.pbs_base.specs.Entries.{and_then, since}
-use Rattle.pbs_ast.specs.Trees.{Tree, Empty, Terminal, Action, Seq, Choice, Star, Hold, Scope, has_place, is_place, is_action, nullable}
+use Rattle.pbs_ast.specs.Trees.{Tree, Empty, Terminal, Action, Seq, Choice, Star, Hold, Scope, has_place, is_place}
+use Rattle.pbs_ast.specs.Trees.{is_action, nullable}
 use Rattle.pbs_derive.proofs.Shapes.{WellFormed, PlacesOnce}
 use Rattle.pbs_ast.specs.Sound.{place_count}
 use Rattle.pbs_derive.specs.Derivations.{SameTo, stands, fires, NoOverlapBelow}

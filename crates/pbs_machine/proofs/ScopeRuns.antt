@@ -1,17 +1,22 @@
 -- What a scope in the machine shows, by induction over the rows.
-use Rattle.std.proofs.Common.{◌≡◌, ℕ, zero, suc, ◌-◌, ◌<◌, ◌≤◌, Bool, true, not, ◌&&◌, ◌||◌, inl, inr, sym, ◌∙◌, ap, arith, subst, ◌↔◌}
+use Rattle.std.proofs.Common.{◌≡◌, ℕ, zero, suc, ◌-◌, ◌<◌, ◌≤◌, Bool, true, not, ◌&&◌, ◌||◌, inl, inr, sym, ◌∙◌, ap}
+use Rattle.std.proofs.Common.{arith, subst, ◌↔◌}
 use Rattle.std.proofs.lemmas.Bool.{and_parts, and_from, true≢false, cases_lt, or_left, or_right}
 use Rattle.pbs_ast.specs.Trees.{Tree, nullable, has_terminal}
 use Rattle.pbs_derive.specs.Derivations.{covers, alive, live, some_after, first_after}
 use Rattle.pbs_derive.proofs.Reached.{reaches, reaches_alive}
 use Rattle.pbs_machine.specs.Nodes.{On, From, ClearBelow}
 use Rattle.pbs_machine.specs.Rows.{stays, started}
-use Rattle.pbs_derive.proofs.Positions.{or_elim, first_to, first_from, none_to, none_from, NoneAfter, not_true_from, not_false_to}
+use Rattle.pbs_derive.proofs.Positions.{or_elim, first_to, first_from, none_to, none_from, NoneAfter, not_true_from}
+use Rattle.pbs_derive.proofs.Positions.{not_false_to}
 use Rattle.pbs_derive.proofs.Stretches.{lasts}
 use Rattle.pbs_derive.proofs.EmptyStretch.{nullable_to_covers, covers_to_nullable, terminal_to_alive, alive_to_terminal}
-use Rattle.pbs_machine.proofs.Starts.{from_kept, from_held, on_none, on_less, on_more, from_map, from_more, from_cases, from_zero, Hands, hands_to, hands_from, clear_less, clear_handed}
+use Rattle.pbs_machine.proofs.Starts.{from_kept, from_held, on_none, on_less, on_more, from_map, from_more, from_cases}
+use Rattle.pbs_machine.proofs.Starts.{from_zero, Hands, hands_to, hands_from, clear_less, clear_handed}
 use Rattle.pbs_machine.proofs.Contract.{Meets, ends_outer}
-use Rattle.pbs_machine.proofs.Scopes.{Setting, whole, keeps_body, keeps_trap, starts_after, aborts, Clean, NotAborted, Since, KeptTrap, trap_ends, Trapped, trips_to, none_here, none_less, none_more, clear_trap, one_live, trap_ends_right, kept_body, body_kept}
+use Rattle.pbs_machine.proofs.Scopes.{Setting, whole, keeps_body, keeps_trap, starts_after, aborts, Clean, NotAborted}
+use Rattle.pbs_machine.proofs.Scopes.{Since, KeptTrap, trap_ends, Trapped, trips_to, none_here, none_less, none_more}
+use Rattle.pbs_machine.proofs.Scopes.{clear_trap, one_live, trap_ends_right, kept_body, body_kept}
 
 fewer : (x : Setting) (k n : ℕ) → n ≤ k → Clean x k → Clean x n
 fewer x = clear_less (whole x) x.v x.start x.keep x.outer

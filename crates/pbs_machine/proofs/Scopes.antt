@@ -1,7 +1,9 @@
 -- Scopes in the machine.
-use Rattle.std.proofs.Common.{◌≡◌, ℕ, zero, suc, ◌-◌, ◌<◌, ◌≤◌, Bool, true, false, not, ◌&&◌, List, inl, inr, refl, sym, ◌∙◌, ap, arith, ◌↔◌}
+use Rattle.std.proofs.Common.{◌≡◌, ℕ, zero, suc, ◌-◌, ◌<◌, ◌≤◌, Bool, true, false, not, ◌&&◌, List, inl, inr, refl, sym}
+use Rattle.std.proofs.Common.{◌∙◌, ap, arith, ◌↔◌}
 use Rattle.std.proofs.lemmas.Bool.{and_parts, and_from, false≢true, eq-eqb, cases_lt, or_left, or_right}
-use Rattle.pbs_ast.specs.Trees.{Spot, Tree, Empty, Terminal, Action, Seq, Choice, Star, Hold, Scope, is_plain, has_no_scope}
+use Rattle.pbs_ast.specs.Trees.{Spot, Tree, Empty, Terminal, Action, Seq, Choice, Star, Hold, Scope, is_plain}
+use Rattle.pbs_ast.specs.Trees.{has_no_scope}
 use Rattle.pbs_derive.proofs.Shapes.{WellFormed}
 use Rattle.pbs_derive.specs.Derivations.{covers, alive, live, trips}
 use Rattle.pbs_machine.specs.Nodes.{On, From, ClearBelow}

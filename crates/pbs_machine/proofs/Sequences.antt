@@ -1,5 +1,6 @@
 -- Sequences and stars in the machine.
-use Rattle.std.proofs.Common.{◌≡◌, ℕ, zero, suc, ◌≤◌, Bool, true, false, ◌&&◌, ◌||◌, List, ◌⊎◌, inl, inr, refl, sym, ◌∙◌, ap, arith, ◌↔◌}
+use Rattle.std.proofs.Common.{◌≡◌, ℕ, zero, suc, ◌≤◌, Bool, true, false, ◌&&◌, ◌||◌, List, ◌⊎◌, inl, inr, refl, sym}
+use Rattle.std.proofs.Common.{◌∙◌, ap, arith, ◌↔◌}
 use Rattle.std.proofs.lemmas.Bool.{and_parts, and_from, true≢false, cases_lt, or_left, or_right}
 use Rattle.pbs_ast.specs.Trees.{Spot, Tree, Seq, nullable, has_terminal}
 use Rattle.pbs_derive.proofs.Shapes.{WellFormed}
@@ -9,7 +10,8 @@ use Rattle.pbs_machine.specs.Nodes.{From, ClearBelow}
 use Rattle.pbs_machine.specs.Rows.{ends, stays, started, right_start}
 use Rattle.pbs_derive.proofs.Positions.{split_to, split_from, or_elim}
 use Rattle.pbs_derive.proofs.EmptyStretch.{nullable_to_covers, covers_to_nullable, terminal_to_alive, alive_to_terminal}
-use Rattle.pbs_machine.proofs.Starts.{from_map, from_or, from_fresh, from_more, from_cases, from_zero, Hands, Through, hands_to, hands_from, clear_less, clear_part, clear_handed}
+use Rattle.pbs_machine.proofs.Starts.{from_map, from_or, from_fresh, from_more, from_cases, from_zero, Hands, Through}
+use Rattle.pbs_machine.proofs.Starts.{hands_to, hands_from, clear_less, clear_part, clear_handed}
 use Rattle.pbs_machine.proofs.Contract.{Meets, ends_outer}
 
 -- the start bit of a sequence's right part

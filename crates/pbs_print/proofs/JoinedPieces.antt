@@ -1,16 +1,21 @@
 -- Joined pieces, one after the other.
-use Rattle.std.proofs.Common.{◌≡◌, ℕ, zero, suc, ◌+◌, ◌≤◌, List, [], ◌∷◌, ◌++◌, length, map, drop, Some, refl, sym, ap, ◌∙◌, append_assoc, append-nil, arith, add-one}
+use Rattle.std.proofs.Common.{◌≡◌, ℕ, zero, suc, ◌+◌, ◌≤◌, List, [], ◌∷◌, ◌++◌, length, map, drop, Some, refl, sym, ap}
+use Rattle.std.proofs.Common.{◌∙◌, append_assoc, append-nil, arith, add-one}
 use Rattle.std.specs.Prelude.{slice_get, codes, Result, Ok, Err, OnOk}
 use Rattle.pbs_base.specs.declared.fail.Memory.{Memory}
 use Rattle.std.specs.List.{concat}
-use Rattle.pbs_ast.specs.declared.syntax.SpecTerm.{SpecTerm, Row_of-SpecTerm, end_of-SpecTerm, more_of-SpecTerm, items-the_row-SpecTerm, items_hidden-the_row-SpecTerm-0}
+use Rattle.pbs_ast.specs.declared.syntax.SpecTerm.{SpecTerm, Row_of-SpecTerm, end_of-SpecTerm, more_of-SpecTerm}
+use Rattle.pbs_ast.specs.declared.syntax.SpecTerm.{items-the_row-SpecTerm, items_hidden-the_row-SpecTerm-0}
 use Rattle.pbs_ast.specs.declared.syntax.SpecTerm.TheBlock.{hidden-the_row-SpecTerm-0}
 use Rattle.pbs_ast.specs.declared.syntax.SpecTerm as node
 use Rattle.pbs_ast.specs.declared.syntax.Expr.{Expr}
 use Rattle.pbs_ast.specs.declared.syntax.Kind as kind
-use Rattle.pbs_ast.specs.declared.syntax.Kind.{Kind, Row_of-Expr, end_of-Expr, more_of-Expr, items-the_row-Expr, items_hidden-the_row-Expr-0}
+use Rattle.pbs_ast.specs.declared.syntax.Kind.{Kind, Row_of-Expr, end_of-Expr, more_of-Expr, items-the_row-Expr}
+use Rattle.pbs_ast.specs.declared.syntax.Kind.{items_hidden-the_row-Expr-0}
 use Rattle.pbs_ast.specs.declared.syntax.Kind.TheBlock.{hidden-the_row-Expr-0}
-use Rattle.pbs_print.specs.Canonical.{followed, joined, lead, joined_from, bracketed, is_any, is_joined, is_list, is_choice, term_text, all_members, any_members, kind_text, expr_text, seq_members, choice_members}
+use Rattle.pbs_print.specs.Canonical.{followed, joined, lead, joined_from, bracketed, is_any, is_joined, is_list}
+use Rattle.pbs_print.specs.Canonical.{is_choice, term_text, all_members, any_members, kind_text, expr_text, seq_members}
+use Rattle.pbs_print.specs.Canonical.{choice_members}
 
 -- ---- the items of a node as a list
 

@@ -1,6 +1,7 @@
 // Expressions.
 ghost use Rattle.std.specs.Prelude.{◌≡◌, ◌++◌, OnOk, map, not, codes, decimal};
-ghost use Rattle.pbs_print.specs.Canonical.{term_text, kind_text, expr_text, bounds_text, bracketed, is_empty, is_choice, is_list, is_wide, joined};
+ghost use Rattle.pbs_print.specs.Canonical.{term_text, kind_text, expr_text, bounds_text, bracketed, is_empty};
+ghost use Rattle.pbs_print.specs.Canonical.{is_choice, is_list, is_wide, joined};
 
 use crate::pieces::{put, put_lead, put_number};
 use crate::terms::put_term;
@@ -74,7 +75,8 @@ fn put_bounds(text: &mut Vec<u8>, least: u32, most: u32) -> Result<(), Memory>
 
 // 'hold [' term '] : '
 fn put_guard(text: &mut Vec<u8>, term: &SpecTerm) -> Result<(), Memory>
-    ensures { OnOk result (text.new.items ≡ text.old.items ++ (codes "hold [" ++ (term_text term.now ++ codes "] : "))) }
+    ensures { OnOk result (text.new.items ≡ text.old.items ++
+        (codes "hold [" ++ (term_text term.now ++ codes "] : "))) }
 {
     put(text, b"hold [")?;
     put_term(text, term)?;

@@ -1,7 +1,8 @@
 // The lines of a specification.
 ghost use Rattle.std.specs.Prelude.{◌≡◌, ◌++◌, OnOk, OnErr, map, codes, decimal};
 ghost use Rattle.std.specs.List.{concat};
-ghost use Rattle.pbs_print.specs.Canonical.{canonical, decl_text, decls_line, expr_text, joined, level_line, prod_line, set_text, width_text, bit_text};
+ghost use Rattle.pbs_print.specs.Canonical.{canonical, decl_text, decls_line, expr_text, joined, level_line, prod_line};
+ghost use Rattle.pbs_print.specs.Canonical.{set_text, width_text, bit_text};
 
 use crate::exprs::put_expr;
 use crate::pieces::{put, put_bit, put_lead, put_number};

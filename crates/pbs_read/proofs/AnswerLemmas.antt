@@ -12,7 +12,8 @@ use Rattle.pbs_read.specs.Lexing.{tokens}
 use Rattle.pbs_read.specs.Reading.{refusal}
 use Rattle.pbs_read.specs.Refusals.{IsRefused, Says}
 use Rattle.pbs_read.specs.TextDescent.{ReadsText, StopsText}
-use Rattle.pbs_read.specs.Answers.{IsShort, StandsFor, IsRefusedBy, ByLength, ByToken, ByGrammar, Answers, Refuses, IsThe, StopsLexing}
+use Rattle.pbs_read.specs.Answers.{IsShort, StandsFor, IsRefusedBy, ByLength, ByToken, ByGrammar, Answers, Refuses}
+use Rattle.pbs_read.specs.Answers.{IsThe, StopsLexing}
 use Rattle.pbs_read.proofs.Phrases.{one_phrase}
 use Rattle.pbs_read.proofs.Exact.{reading_says, reading_is}
 

@@ -1,5 +1,6 @@
 -- Each exit of the functions that read declarations, over plain variables.
-use Rattle.std.proofs.Common.{◌≡◌, ℕ, ◌<◌, List, [], ◌∷◌, ◌++◌, length, Bool, Option, Some, None, Err, refl, sym, ap, ap₂, ◌∙◌, false, true, arith}
+use Rattle.std.proofs.Common.{◌≡◌, ℕ, ◌<◌, List, [], ◌∷◌, ◌++◌, length, Bool, Option, Some, None, Err, refl, sym, ap}
+use Rattle.std.proofs.Common.{ap₂, ◌∙◌, false, true, arith}
 use Rattle.std.specs.Prelude.{option_map}
 use Rattle.std.proofs.lemmas.Bool.{false≢true}
 use Rattle.pbs_ast.specs.declared.syntax.Expr.{Expr}
@@ -14,13 +15,22 @@ use Rattle.pbs_ast.specs.declared.syntax.Set.{Set}
 use Rattle.pbs_ast.specs.declared.syntax.Level.{Level}
 use Rattle.pbs_ast.specs.declared.syntax.Prod.{Prod}
 use Rattle.pbs_read.specs.Trees.{declared, input_of, inputs_of, names_of}
-use Rattle.pbs_read.specs.DeclDescent.{TakesBit, ReadsWidth, StopsWidth, ReadsInput, StopsInput, ReadsInputs, StopsInputs, ReadsNames, StopsNames, ReadsSet, StopsSet, ReadsSets, StopsSets, ReadsLevelHead, StopsLevel, ReadsLevel, ReadsProd, StopsProd}
+use Rattle.pbs_read.specs.DeclDescent.{TakesBit, ReadsWidth, StopsWidth, ReadsInput, StopsInput, ReadsInputs}
+use Rattle.pbs_read.specs.DeclDescent.{StopsInputs, ReadsNames, StopsNames, ReadsSet, StopsSet, ReadsSets, StopsSets}
+use Rattle.pbs_read.specs.DeclDescent.{ReadsLevelHead, StopsLevel, ReadsLevel, ReadsProd, StopsProd}
 use Rattle.pbs_base.specs.declared.refusal.Span.{Span}
 use Rattle.pbs_read.specs.declared.token.Token.{Token}
 use Rattle.pbs_read.specs.declared.token.TokenKind.{TokenKind}
-use Rattle.pbs_read.specs.declared.token.TokenKind.TheVariants.{Name, Zero, One, Two, Digit, Semicolon, Comma, Equals, OpenCurly, CloseCurly, Bar, Colon}
-use Rattle.pbs_read.specs.Grammar.{token, Second, bit_kind, Width, OneBit, TwoBits, MoreBits, width_kind, ExprPhrase, OneSeq, MoreSeqs, OneItem, MoreItems, InputPhrase, OneWire, Bus, InputsPhrase, OneInput, MoreInputs, NamesPhrase, OneName, MoreNames, SetsPhrase, NoSets, MoreSets, InputDecl, ProdDecl}
-use Rattle.pbs_read.specs.Places.{Front, OfProd, InputHole, FirstInput, NextInput, NameHole, FirstName, NextName, LevelFront, Place, InDecls, WantsInput, AfterInputName, WantsWidth, AfterInput, WantsName, AfterName, AfterLevelEquals, AfterLevelBit, InLevel, AfterSetColon, AfterSetBit, before}
+use Rattle.pbs_read.specs.declared.token.TokenKind.TheVariants.{Name, Zero, One, Two, Digit, Semicolon, Comma, Equals}
+use Rattle.pbs_read.specs.declared.token.TokenKind.TheVariants.{OpenCurly, CloseCurly, Bar, Colon}
+use Rattle.pbs_read.specs.Grammar.{token, Second, bit_kind, Width, OneBit, TwoBits, MoreBits, width_kind, ExprPhrase}
+use Rattle.pbs_read.specs.Grammar.{OneSeq, MoreSeqs, OneItem, MoreItems, InputPhrase, OneWire, Bus, InputsPhrase}
+use Rattle.pbs_read.specs.Grammar.{OneInput, MoreInputs, NamesPhrase, OneName, MoreNames, SetsPhrase, NoSets, MoreSets}
+use Rattle.pbs_read.specs.Grammar.{InputDecl, ProdDecl}
+use Rattle.pbs_read.specs.Places.{Front, OfProd, InputHole, FirstInput, NextInput, NameHole, FirstName, NextName}
+use Rattle.pbs_read.specs.Places.{LevelFront, Place, InDecls, WantsInput, AfterInputName, WantsWidth, AfterInput}
+use Rattle.pbs_read.specs.Places.{WantsName, AfterName, AfterLevelEquals, AfterLevelBit, InLevel, AfterSetColon}
+use Rattle.pbs_read.specs.Places.{AfterSetBit, before}
 use Rattle.pbs_read.specs.Steps.{bit_of, width_of, with_next, level_front, step}
 use Rattle.pbs_read.proofs.TermExits.{none_second}
 use Rattle.pbs_read.proofs.ExprExits.{unclosed}

@@ -4,7 +4,8 @@ use Rattle.std.specs.Prelude.{option_map}
 use Rattle.pbs_read.specs.declared.token.Token.{Token}
 use Rattle.pbs_read.specs.declared.token.TokenKind.{TokenKind}
 use Rattle.pbs_read.specs.declared.token.TokenKind.TheVariants.{Zero, One, Two, Digit, Number}
-use Rattle.pbs_read.specs.Grammar.{token, Numeral, ZeroNumeral, OneNumeral, TwoNumeral, DigitNumeral, LongNumeral, numeral_kind}
+use Rattle.pbs_read.specs.Grammar.{token, Numeral, ZeroNumeral, OneNumeral, TwoNumeral, DigitNumeral, LongNumeral}
+use Rattle.pbs_read.specs.Grammar.{numeral_kind}
 use Rattle.pbs_read.specs.Trees.{numeral_value}
 use Rattle.pbs_read.specs.Steps.{numeral_of}
 use Rattle.pbs_read.specs.Descent.{TakesNumeral}

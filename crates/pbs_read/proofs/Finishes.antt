@@ -4,9 +4,24 @@ use Rattle.std.specs.Prelude.{option_and_then}
 use Rattle.pbs_base.specs.declared.refusal.Span.{Span}
 use Rattle.pbs_read.specs.declared.token.Token.{Token}
 use Rattle.pbs_read.specs.declared.token.TokenKind.{TokenKind}
-use Rattle.pbs_read.specs.declared.token.TokenKind.TheVariants.{Name, Zero, One, SpecWord, MainWord, AbortWord, ThenWord, Semicolon, Comma, Equals, OpenCurly, CloseCurly, OpenRound, CloseRound, OpenSquare, CloseSquare, Colon}
-use Rattle.pbs_read.specs.Grammar.{token, Second, Numeral, OneNumeral, UnitPhrase, Negated, Bracketed, Named, Bit, Compared, AllPhrase, OneUnit, MoreUnits, TermPhrase, OneAll, MoreAlls, ItemPhrase, Plain, Counted, PrimPhrase, Action, Call, Grouped, Hold, Try, GroupPhrase, EmptyGroup, SetsPhrase, TextPhrase}
-use Rattle.pbs_read.specs.Places.{Front, OfGroup, OfProd, OfMain, FirstSeq, NextSeq, ItemHole, FirstItem, NextItem, GroupHole, AsPrim, OfHold, OfBody, OfTrap, OfAfter, OfTerminal, OfGuard, InRound, AllHole, FirstAll, NextAll, UnitHole, UnderNot, FirstUnit, NextUnit, NameHole, FirstName, NextName, LevelFront, Place, Start, AfterSpec, AfterVersion, InDecls, WantsInput, AfterInputName, WantsWidth, AfterInput, WantsName, AfterName, AfterLevel, AfterLevelName, AfterLevelEquals, AfterLevelBit, InLevel, AfterSetName, AfterSetColon, AfterSetBit, AfterProd, AfterProdName, AfterMain, WantsItem, WantsGroup, InGroup, InCurly, AfterActionName, AfterHold, AfterGuard, AfterBody, AfterTrap, AfterPrim, WantsLeast, AfterLeast, WantsMost, AfterMost, AfterItem, WantsUnit, AfterUnitName, WantsNumber, AfterUnit, Whole}
+use Rattle.pbs_read.specs.declared.token.TokenKind.TheVariants.{Name, Zero, One, SpecWord, MainWord, AbortWord}
+use Rattle.pbs_read.specs.declared.token.TokenKind.TheVariants.{ThenWord, Semicolon, Comma, Equals, OpenCurly}
+use Rattle.pbs_read.specs.declared.token.TokenKind.TheVariants.{CloseCurly, OpenRound, CloseRound, OpenSquare}
+use Rattle.pbs_read.specs.declared.token.TokenKind.TheVariants.{CloseSquare, Colon}
+use Rattle.pbs_read.specs.Grammar.{token, Second, Numeral, OneNumeral, UnitPhrase, Negated, Bracketed, Named, Bit}
+use Rattle.pbs_read.specs.Grammar.{Compared, AllPhrase, OneUnit, MoreUnits, TermPhrase, OneAll, MoreAlls, ItemPhrase}
+use Rattle.pbs_read.specs.Grammar.{Plain, Counted, PrimPhrase, Action, Call, Grouped, Hold, Try, GroupPhrase}
+use Rattle.pbs_read.specs.Grammar.{EmptyGroup, SetsPhrase, TextPhrase}
+use Rattle.pbs_read.specs.Places.{Front, OfGroup, OfProd, OfMain, FirstSeq, NextSeq, ItemHole, FirstItem, NextItem}
+use Rattle.pbs_read.specs.Places.{GroupHole, AsPrim, OfHold, OfBody, OfTrap, OfAfter, OfTerminal, OfGuard, InRound}
+use Rattle.pbs_read.specs.Places.{AllHole, FirstAll, NextAll, UnitHole, UnderNot, FirstUnit, NextUnit, NameHole}
+use Rattle.pbs_read.specs.Places.{FirstName, NextName, LevelFront, Place, Start, AfterSpec, AfterVersion, InDecls}
+use Rattle.pbs_read.specs.Places.{WantsInput, AfterInputName, WantsWidth, AfterInput, WantsName, AfterName, AfterLevel}
+use Rattle.pbs_read.specs.Places.{AfterLevelName, AfterLevelEquals, AfterLevelBit, InLevel, AfterSetName, AfterSetColon}
+use Rattle.pbs_read.specs.Places.{AfterSetBit, AfterProd, AfterProdName, AfterMain, WantsItem, WantsGroup, InGroup}
+use Rattle.pbs_read.specs.Places.{InCurly, AfterActionName, AfterHold, AfterGuard, AfterBody, AfterTrap, AfterPrim}
+use Rattle.pbs_read.specs.Places.{WantsLeast, AfterLeast, WantsMost, AfterMost, AfterItem, WantsUnit, AfterUnitName}
+use Rattle.pbs_read.specs.Places.{WantsNumber, AfterUnit, Whole}
 use Rattle.pbs_read.specs.Steps.{unit_hole, unit_all, with_group, with_name, end_unit, end_item, step, walk}
 
 -- the place can be completed to a whole text

@@ -2,9 +2,15 @@
 use Rattle.std.proofs.Common.{◌≡◌, List, [], ◌∷◌, Option, Some, refl, sym, ap, ◌∙◌}
 use Rattle.pbs_read.specs.declared.token.Token.{Token}
 use Rattle.pbs_read.specs.declared.token.TokenKind.{TokenKind}
-use Rattle.pbs_read.specs.declared.token.TokenKind.TheVariants.{Name, SpecWord, MainWord, AbortWord, ThenWord, Semicolon, Comma, Equals, OpenCurly, CloseCurly, OpenRound, CloseRound, OpenSquare, CloseSquare, Bar, Star, Plus, Question, Ampersand, Colon}
+use Rattle.pbs_read.specs.declared.token.TokenKind.TheVariants.{Name, SpecWord, MainWord, AbortWord, ThenWord}
+use Rattle.pbs_read.specs.declared.token.TokenKind.TheVariants.{Semicolon, Comma, Equals, OpenCurly, CloseCurly}
+use Rattle.pbs_read.specs.declared.token.TokenKind.TheVariants.{OpenRound, CloseRound, OpenSquare, CloseSquare, Bar}
+use Rattle.pbs_read.specs.declared.token.TokenKind.TheVariants.{Star, Plus, Question, Ampersand, Colon}
 use Rattle.pbs_read.specs.declared.token.Mark.{Mark}
-use Rattle.pbs_read.specs.declared.token.Mark.TheVariants.{AName, Spec, Main, Abort, Then, SemicolonMark, CommaMark, EqualsMark, OpenCurlyMark, CloseCurlyMark, OpenRoundMark, CloseRoundMark, OpenSquareMark, CloseSquareMark, BarMark, StarMark, PlusMark, QuestionMark, AmpersandMark, ColonMark}
+use Rattle.pbs_read.specs.declared.token.Mark.TheVariants.{AName, Spec, Main, Abort, Then, SemicolonMark, CommaMark}
+use Rattle.pbs_read.specs.declared.token.Mark.TheVariants.{EqualsMark, OpenCurlyMark, CloseCurlyMark, OpenRoundMark}
+use Rattle.pbs_read.specs.declared.token.Mark.TheVariants.{CloseRoundMark, OpenSquareMark, CloseSquareMark, BarMark}
+use Rattle.pbs_read.specs.declared.token.Mark.TheVariants.{StarMark, PlusMark, QuestionMark, AmpersandMark, ColonMark}
 use Rattle.pbs_read.specs.Grammar.{token}
 use Rattle.pbs_read.specs.Marks.{kind_of, mark_of}
 use Rattle.pbs_read.specs.Descent.{BeginsWith}

@@ -1,15 +1,42 @@
 -- A phrase is walked over, and so are the tokens before a hole.
-use Rattle.std.proofs.Common.{◌≡◌, List, [], ◌∷◌, ◌++◌, Bool, Option, Some, refl, sym, ap, ◌∙◌, append_assoc, false, true}
+use Rattle.std.proofs.Common.{◌≡◌, List, [], ◌∷◌, ◌++◌, Bool, Option, Some, refl, sym, ap, ◌∙◌, append_assoc, false}
+use Rattle.std.proofs.Common.{true}
 use Rattle.std.specs.Prelude.{option_map, option_and_then}
 use Rattle.pbs_base.specs.declared.refusal.Span.{Span}
 use Rattle.pbs_read.specs.declared.token.Token.{Token}
 use Rattle.pbs_read.specs.declared.token.Operator.{Operator}
 use Rattle.pbs_read.specs.declared.token.Operator.TheVariants.{StarOp, PlusOp, OptOp}
 use Rattle.pbs_read.specs.declared.token.TokenKind.{TokenKind}
-use Rattle.pbs_read.specs.declared.token.TokenKind.TheVariants.{Name, ProdWord, MainWord, HoldWord, TryWord, AbortWord, ThenWord, Semicolon, Comma, Equals, OpenCurly, CloseCurly, OpenRound, CloseRound, OpenSquare, CloseSquare, Bar, Tilde, Ampersand, Colon}
-use Rattle.pbs_read.specs.Grammar.{token, Second, bit_kind, version_kind, Numeral, ZeroNumeral, OneNumeral, TwoNumeral, DigitNumeral, LongNumeral, numeral_kind, Width, OneBit, TwoBits, MoreBits, width_kind, operator_kind, UnitPhrase, Negated, Bracketed, Named, Bit, Compared, AllPhrase, OneUnit, MoreUnits, TermPhrase, OneAll, MoreAlls, ExprPhrase, OneSeq, MoreSeqs, SeqPhrase, OneItem, MoreItems, ItemPhrase, Plain, Repeated, Counted, PrimPhrase, Terminal, Action, Call, Grouped, Hold, Try, GroupPhrase, EmptyGroup, FullGroup, InputPhrase, OneWire, Bus, InputsPhrase, OneInput, MoreInputs, NamesPhrase, OneName, MoreNames, SetsPhrase, NoSets, MoreSets, DeclPhrase, InputDecl, ActionDecl, LevelDecl, ProdDecl, DeclsPhrase, NoDecls, MoreDecls, TextPhrase, OfVersion, unit_tokens, all_tokens, term_tokens, expr_tokens, seq_tokens, item_tokens, prim_tokens, group_tokens, input_tokens, inputs_tokens, names_tokens, sets_tokens, decl_tokens, decls_tokens, head_tokens, text_tokens, Begins}
-use Rattle.pbs_read.specs.Places.{Front, ExprHole, OfGroup, OfProd, OfMain, SeqHole, FirstSeq, NextSeq, ItemHole, FirstItem, NextItem, GroupHole, AsPrim, OfHold, OfBody, OfTrap, OfAfter, TermHole, OfTerminal, OfGuard, InRound, AllHole, FirstAll, NextAll, UnitHole, UnderNot, FirstUnit, NextUnit, InputHole, FirstInput, NextInput, FirstName, LevelFront, Place, Start, InDecls, WantsInput, AfterInputName, WantsWidth, AfterInput, WantsName, AfterName, AfterLevelEquals, AfterLevelBit, InLevel, AfterSetColon, AfterSetBit, WantsItem, WantsGroup, InGroup, AfterPrim, WantsLeast, AfterLeast, WantsMost, AfterMost, AfterItem, WantsUnit, AfterUnitName, WantsNumber, Whole, front_tokens, before_expr, before_seq, before_item, before_group, before_term, before_all, before_unit}
-use Rattle.pbs_read.specs.Steps.{second, bit_of, version_of, numeral_of, width_of, with_next, unit_hole, unit_all, with_unit, with_group, with_item, seq_hole, with_seq, expr_hole, close_round, close_square, close_group, close_expr, end_unit, start_item, end_item, end_input, first_front, level_front, step, walk}
+use Rattle.pbs_read.specs.declared.token.TokenKind.TheVariants.{Name, ProdWord, MainWord, HoldWord, TryWord, AbortWord}
+use Rattle.pbs_read.specs.declared.token.TokenKind.TheVariants.{ThenWord, Semicolon, Comma, Equals, OpenCurly}
+use Rattle.pbs_read.specs.declared.token.TokenKind.TheVariants.{CloseCurly, OpenRound, CloseRound, OpenSquare}
+use Rattle.pbs_read.specs.declared.token.TokenKind.TheVariants.{CloseSquare, Bar, Tilde, Ampersand, Colon}
+use Rattle.pbs_read.specs.Grammar.{token, Second, bit_kind, version_kind, Numeral, ZeroNumeral, OneNumeral, TwoNumeral}
+use Rattle.pbs_read.specs.Grammar.{DigitNumeral, LongNumeral, numeral_kind, Width, OneBit, TwoBits, MoreBits}
+use Rattle.pbs_read.specs.Grammar.{width_kind, operator_kind, UnitPhrase, Negated, Bracketed, Named, Bit, Compared}
+use Rattle.pbs_read.specs.Grammar.{AllPhrase, OneUnit, MoreUnits, TermPhrase, OneAll, MoreAlls, ExprPhrase, OneSeq}
+use Rattle.pbs_read.specs.Grammar.{MoreSeqs, SeqPhrase, OneItem, MoreItems, ItemPhrase, Plain, Repeated, Counted}
+use Rattle.pbs_read.specs.Grammar.{PrimPhrase, Terminal, Action, Call, Grouped, Hold, Try, GroupPhrase, EmptyGroup}
+use Rattle.pbs_read.specs.Grammar.{FullGroup, InputPhrase, OneWire, Bus, InputsPhrase, OneInput, MoreInputs}
+use Rattle.pbs_read.specs.Grammar.{NamesPhrase, OneName, MoreNames, SetsPhrase, NoSets, MoreSets, DeclPhrase, InputDecl}
+use Rattle.pbs_read.specs.Grammar.{ActionDecl, LevelDecl, ProdDecl, DeclsPhrase, NoDecls, MoreDecls, TextPhrase}
+use Rattle.pbs_read.specs.Grammar.{OfVersion, unit_tokens, all_tokens, term_tokens, expr_tokens, seq_tokens}
+use Rattle.pbs_read.specs.Grammar.{item_tokens, prim_tokens, group_tokens, input_tokens, inputs_tokens, names_tokens}
+use Rattle.pbs_read.specs.Grammar.{sets_tokens, decl_tokens, decls_tokens, head_tokens, text_tokens, Begins}
+use Rattle.pbs_read.specs.Places.{Front, ExprHole, OfGroup, OfProd, OfMain, SeqHole, FirstSeq, NextSeq, ItemHole}
+use Rattle.pbs_read.specs.Places.{FirstItem, NextItem, GroupHole, AsPrim, OfHold, OfBody, OfTrap, OfAfter, TermHole}
+use Rattle.pbs_read.specs.Places.{OfTerminal, OfGuard, InRound, AllHole, FirstAll, NextAll, UnitHole, UnderNot}
+use Rattle.pbs_read.specs.Places.{FirstUnit, NextUnit, InputHole, FirstInput, NextInput, FirstName, LevelFront, Place}
+use Rattle.pbs_read.specs.Places.{Start, InDecls, WantsInput, AfterInputName, WantsWidth, AfterInput, WantsName}
+use Rattle.pbs_read.specs.Places.{AfterName, AfterLevelEquals, AfterLevelBit, InLevel, AfterSetColon, AfterSetBit}
+use Rattle.pbs_read.specs.Places.{WantsItem, WantsGroup, InGroup, AfterPrim, WantsLeast, AfterLeast, WantsMost}
+use Rattle.pbs_read.specs.Places.{AfterMost, AfterItem, WantsUnit, AfterUnitName, WantsNumber, Whole, front_tokens}
+use Rattle.pbs_read.specs.Places.{before_expr, before_seq, before_item, before_group, before_term, before_all}
+use Rattle.pbs_read.specs.Places.{before_unit}
+use Rattle.pbs_read.specs.Steps.{second, bit_of, version_of, numeral_of, width_of, with_next, unit_hole, unit_all}
+use Rattle.pbs_read.specs.Steps.{with_unit, with_group, with_item, seq_hole, with_seq, expr_hole, close_round}
+use Rattle.pbs_read.specs.Steps.{close_square, close_group, close_expr, end_unit, start_item, end_item, end_input}
+use Rattle.pbs_read.specs.Steps.{first_front, level_front, step, walk}
 use Rattle.pbs_read.proofs.Walks.{walk-before, walk-append}
 use Rattle.pbs_read.proofs.Finishes.{finish}
 

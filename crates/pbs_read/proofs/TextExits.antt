@@ -1,5 +1,6 @@
 -- Each exit of the functions that read whole texts, over plain variables.
-use Rattle.std.proofs.Common.{◌≡◌, ℕ, ◌<◌, List, [], ◌∷◌, ◌++◌, length, map, Bool, Some, None, Err, refl, sym, ap, ap₂, ◌∙◌, false, true, arith}
+use Rattle.std.proofs.Common.{◌≡◌, ℕ, ◌<◌, List, [], ◌∷◌, ◌++◌, length, map, Bool, Some, None, Err, refl, sym, ap, ap₂}
+use Rattle.std.proofs.Common.{◌∙◌, false, true, arith}
 use Rattle.std.specs.Prelude.{option_map}
 use Rattle.pbs_ast.specs.declared.syntax.Expr.{Expr}
 use Rattle.pbs_read.specs.declared.fail.ReadSpec.{ReadSpec}
@@ -16,13 +17,18 @@ use Rattle.pbs_read.specs.declared.spec.DeclWord.{DeclWord}
 use Rattle.pbs_read.specs.declared.spec.DeclWord.TheVariants.{OfInput, OfAction, OfLevel, OfProd}
 use Rattle.pbs_read.specs.Bare.{bare_prod}
 use Rattle.pbs_read.specs.Trees.{Declared, with_decl}
-use Rattle.pbs_read.specs.DeclDescent.{ReadsInputs, StopsInputs, ReadsNames, StopsNames, StopsLevel, ReadsLevel, ReadsProd, StopsProd}
-use Rattle.pbs_read.specs.TextDescent.{bare_lists, nothing_yet, made_spec, decl_word, decl_kind, behind_word, ReadsVersion, StopsVersion, TakesDeclWord, ReadsDecl, StopsDecl, ReadsDecls, StopsDecls, ReadsMain, StopsMain, ReadsText, StopsText}
+use Rattle.pbs_read.specs.DeclDescent.{ReadsInputs, StopsInputs, ReadsNames, StopsNames, StopsLevel, ReadsLevel}
+use Rattle.pbs_read.specs.DeclDescent.{ReadsProd, StopsProd}
+use Rattle.pbs_read.specs.TextDescent.{bare_lists, nothing_yet, made_spec, decl_word, decl_kind, behind_word}
+use Rattle.pbs_read.specs.TextDescent.{ReadsVersion, StopsVersion, TakesDeclWord, ReadsDecl, StopsDecl, ReadsDecls}
+use Rattle.pbs_read.specs.TextDescent.{StopsDecls, ReadsMain, StopsMain, ReadsText, StopsText}
 use Rattle.pbs_base.specs.declared.refusal.Span.{Span}
 use Rattle.pbs_read.specs.declared.token.Token.{Token}
 use Rattle.pbs_read.specs.declared.token.TokenKind.{TokenKind}
-use Rattle.pbs_read.specs.declared.token.TokenKind.TheVariants.{One, Two, SpecWord, InputWord, ActionWord, LevelWord, ProdWord, MainWord, Semicolon, Comma, Equals, Bar}
-use Rattle.pbs_read.specs.Grammar.{token, version_kind, ExprPhrase, OneSeq, MoreSeqs, OneItem, MoreItems, InputDecl, ActionDecl, LevelDecl, ProdDecl, DeclsPhrase, NoDecls, MoreDecls, OfVersion}
+use Rattle.pbs_read.specs.declared.token.TokenKind.TheVariants.{One, Two, SpecWord, InputWord, ActionWord, LevelWord}
+use Rattle.pbs_read.specs.declared.token.TokenKind.TheVariants.{ProdWord, MainWord, Semicolon, Comma, Equals, Bar}
+use Rattle.pbs_read.specs.Grammar.{token, version_kind, ExprPhrase, OneSeq, MoreSeqs, OneItem, MoreItems, InputDecl}
+use Rattle.pbs_read.specs.Grammar.{ActionDecl, LevelDecl, ProdDecl, DeclsPhrase, NoDecls, MoreDecls, OfVersion}
 use Rattle.pbs_read.specs.Places.{Front, OfProd, OfMain, AfterSpec, AfterVersion, InDecls, Whole}
 use Rattle.pbs_read.specs.Steps.{version_of, whole_spec, first_front, step}
 use Rattle.pbs_read.proofs.ExprExits.{unclosed}

@@ -8,9 +8,11 @@ use Rattle.pbs_ast.specs.declared.syntax.Prod.{Prod}
 use Rattle.pbs_read.specs.declared.fail.ReadSpec.{ReadSpec}
 use Rattle.pbs_read.specs.declared.fail.ReadSpec.TheVariants.{Memory, Refused}
 use Rattle.pbs_read.specs.declared.token.Token.{Token}
-use Rattle.pbs_read.specs.Grammar.{token, bit_kind, InputPhrase, InputsPhrase, NamesPhrase, SetsPhrase, NoSets, MoreSets, InputDecl, ActionDecl, LevelDecl, ProdDecl, ExprPhrase}
+use Rattle.pbs_read.specs.Grammar.{token, bit_kind, InputPhrase, InputsPhrase, NamesPhrase, SetsPhrase, NoSets}
+use Rattle.pbs_read.specs.Grammar.{MoreSets, InputDecl, ActionDecl, LevelDecl, ProdDecl, ExprPhrase}
 use Rattle.pbs_read.specs.Trees.{declared, input_of, inputs_of, names_of, sets_of, expr_tree, word_at}
-use Rattle.pbs_read.specs.Places.{Front, InputHole, FirstInput, FirstName, LevelFront, InDecls, WantsInput, AfterInputName, AfterInput, WantsName, AfterLevel, InLevel, AfterSetName, AfterProd}
+use Rattle.pbs_read.specs.Places.{Front, InputHole, FirstInput, FirstName, LevelFront, InDecls, WantsInput}
+use Rattle.pbs_read.specs.Places.{AfterInputName, AfterInput, WantsName, AfterLevel, InLevel, AfterSetName, AfterProd}
 use Rattle.pbs_read.specs.Steps.{with_next, level_front}
 use Rattle.pbs_read.specs.Reading.{read}
 

@@ -11,11 +11,17 @@ use Rattle.pbs_read.specs.declared.fail.ReadSpec.TheVariants.{Memory, Refused}
 use Rattle.pbs_read.specs.declared.token.Token.{Token}
 use Rattle.pbs_read.specs.declared.token.TokenKind.{TokenKind}
 use Rattle.pbs_read.specs.declared.token.TokenKind.TheVariants.{Star, Plus, Question}
-use Rattle.pbs_read.specs.Grammar.{token, Second, Numeral, numeral_kind, TermPhrase, OneAll, MoreAlls, SeqPhrase, OneItem, MoreItems, Counted, ExprPhrase, OneSeq, MoreSeqs, PrimPhrase}
-use Rattle.pbs_read.specs.Trees.{numeral_value, unit_tree, all_tree, term_tree, all_items, term_items, seq_items, expr_items, group_tree, prim_tree, item_tree, seq_tree, expr_tree, group_extent, prim_extent, item_extent, seq_extent, expr_extent}
-use Rattle.pbs_read.specs.Places.{ExprHole, SeqHole, FirstSeq, NextSeq, ItemHole, FirstItem, NextItem, OfHold, TermHole, AllHole, FirstAll, NextAll, FirstUnit, Place, WantsItem, WantsGroup, AfterHold, AfterPrim, AfterItem, WantsLeast, WantsUnit, AfterUnit}
+use Rattle.pbs_read.specs.Grammar.{token, Second, Numeral, numeral_kind, TermPhrase, OneAll, MoreAlls, SeqPhrase}
+use Rattle.pbs_read.specs.Grammar.{OneItem, MoreItems, Counted, ExprPhrase, OneSeq, MoreSeqs, PrimPhrase}
+use Rattle.pbs_read.specs.Trees.{numeral_value, unit_tree, all_tree, term_tree, all_items, term_items, seq_items}
+use Rattle.pbs_read.specs.Trees.{expr_items, group_tree, prim_tree, item_tree, seq_tree, expr_tree, group_extent}
+use Rattle.pbs_read.specs.Trees.{prim_extent, item_extent, seq_extent, expr_extent}
+use Rattle.pbs_read.specs.Places.{ExprHole, SeqHole, FirstSeq, NextSeq, ItemHole, FirstItem, NextItem, OfHold, TermHole}
+use Rattle.pbs_read.specs.Places.{AllHole, FirstAll, NextAll, FirstUnit, Place, WantsItem, WantsGroup, AfterHold}
+use Rattle.pbs_read.specs.Places.{AfterPrim, AfterItem, WantsLeast, WantsUnit, AfterUnit}
 use Rattle.pbs_read.specs.Steps.{with_unit, with_group}
-use Rattle.pbs_read.specs.Reading.{read, refusal, point, expr_nesting, seq_nesting, item_nesting, group_nesting, term_nesting, all_nesting, unit_nesting}
+use Rattle.pbs_read.specs.Reading.{read, refusal, point, expr_nesting, seq_nesting, item_nesting, group_nesting}
+use Rattle.pbs_read.specs.Reading.{term_nesting, all_nesting, unit_nesting}
 
 -- the first token is of this kind
 abbrev pub BeginsWith : TokenKind → List Token → Type 0

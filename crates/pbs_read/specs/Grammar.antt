@@ -7,7 +7,12 @@ use Rattle.pbs_read.specs.declared.token.Token.{Token}
 use Rattle.pbs_read.specs.declared.token.Operator.{Operator}
 use Rattle.pbs_read.specs.declared.token.Operator.TheVariants.{StarOp, PlusOp, OptOp}
 use Rattle.pbs_read.specs.declared.token.TokenKind.{TokenKind}
-use Rattle.pbs_read.specs.declared.token.TokenKind.TheVariants.{Name, Zero, One, Two, Digit, Number, SpecWord, InputWord, ActionWord, LevelWord, ProdWord, MainWord, HoldWord, TryWord, AbortWord, ThenWord, Semicolon, Comma, Equals, OpenCurly, CloseCurly, OpenRound, CloseRound, OpenSquare, CloseSquare, Bar, Star, Plus, Question, Tilde, Ampersand, Colon}
+use Rattle.pbs_read.specs.declared.token.TokenKind.TheVariants.{Name, Zero, One, Two, Digit, Number, SpecWord}
+use Rattle.pbs_read.specs.declared.token.TokenKind.TheVariants.{InputWord, ActionWord, LevelWord, ProdWord, MainWord}
+use Rattle.pbs_read.specs.declared.token.TokenKind.TheVariants.{HoldWord, TryWord, AbortWord, ThenWord, Semicolon}
+use Rattle.pbs_read.specs.declared.token.TokenKind.TheVariants.{Comma, Equals, OpenCurly, CloseCurly, OpenRound}
+use Rattle.pbs_read.specs.declared.token.TokenKind.TheVariants.{CloseRound, OpenSquare, CloseSquare, Bar, Star, Plus}
+use Rattle.pbs_read.specs.declared.token.TokenKind.TheVariants.{Question, Tilde, Ampersand, Colon}
 
 abbrev pub token : TokenKind → Span → Token
 token k at = record { kind = k; span = at }

@@ -1,9 +1,15 @@
 -- The kinds of tokens that a rule of the grammar asks for by themselves.
 use Rattle.std.specs.Prelude.{Option, Some, None}
 use Rattle.pbs_read.specs.declared.token.TokenKind.{TokenKind}
-use Rattle.pbs_read.specs.declared.token.TokenKind.TheVariants.{Name, SpecWord, MainWord, AbortWord, ThenWord, Semicolon, Comma, Equals, OpenCurly, CloseCurly, OpenRound, CloseRound, OpenSquare, CloseSquare, Bar, Star, Plus, Question, Ampersand, Colon}
+use Rattle.pbs_read.specs.declared.token.TokenKind.TheVariants.{Name, SpecWord, MainWord, AbortWord, ThenWord}
+use Rattle.pbs_read.specs.declared.token.TokenKind.TheVariants.{Semicolon, Comma, Equals, OpenCurly, CloseCurly}
+use Rattle.pbs_read.specs.declared.token.TokenKind.TheVariants.{OpenRound, CloseRound, OpenSquare, CloseSquare, Bar}
+use Rattle.pbs_read.specs.declared.token.TokenKind.TheVariants.{Star, Plus, Question, Ampersand, Colon}
 use Rattle.pbs_read.specs.declared.token.Mark.{Mark}
-use Rattle.pbs_read.specs.declared.token.Mark.TheVariants.{AName, Spec, Main, Abort, Then, SemicolonMark, CommaMark, EqualsMark, OpenCurlyMark, CloseCurlyMark, OpenRoundMark, CloseRoundMark, OpenSquareMark, CloseSquareMark, BarMark, StarMark, PlusMark, QuestionMark, AmpersandMark, ColonMark}
+use Rattle.pbs_read.specs.declared.token.Mark.TheVariants.{AName, Spec, Main, Abort, Then, SemicolonMark, CommaMark}
+use Rattle.pbs_read.specs.declared.token.Mark.TheVariants.{EqualsMark, OpenCurlyMark, CloseCurlyMark, OpenRoundMark}
+use Rattle.pbs_read.specs.declared.token.Mark.TheVariants.{CloseRoundMark, OpenSquareMark, CloseSquareMark, BarMark}
+use Rattle.pbs_read.specs.declared.token.Mark.TheVariants.{StarMark, PlusMark, QuestionMark, AmpersandMark, ColonMark}
 
 abbrev pub kind_of : Mark → TokenKind
 kind_of AName = Name

@@ -2,8 +2,16 @@
 use Rattle.std.specs.Prelude.{Bool, List, [], ◌∷◌, ◌++◌}
 use Rattle.pbs_base.specs.declared.refusal.Span.{Span}
 use Rattle.pbs_read.specs.declared.token.Token.{Token}
-use Rattle.pbs_read.specs.declared.token.TokenKind.TheVariants.{Name, SpecWord, InputWord, ActionWord, LevelWord, ProdWord, MainWord, HoldWord, TryWord, AbortWord, ThenWord, Comma, Equals, OpenCurly, OpenRound, OpenSquare, CloseSquare, Bar, Tilde, Ampersand, Colon}
-use Rattle.pbs_read.specs.Grammar.{token, Second, bit_kind, version_kind, Numeral, numeral_kind, AllPhrase, TermPhrase, ExprPhrase, SeqPhrase, ItemPhrase, PrimPhrase, GroupPhrase, InputPhrase, InputsPhrase, NamesPhrase, SetsPhrase, DeclsPhrase, TextPhrase, all_tokens, term_tokens, expr_tokens, seq_tokens, item_tokens, prim_tokens, group_tokens, input_tokens, inputs_tokens, names_tokens, sets_tokens, decls_tokens, head_tokens, text_tokens}
+use Rattle.pbs_read.specs.declared.token.TokenKind.TheVariants.{Name, SpecWord, InputWord, ActionWord, LevelWord}
+use Rattle.pbs_read.specs.declared.token.TokenKind.TheVariants.{ProdWord, MainWord, HoldWord, TryWord, AbortWord}
+use Rattle.pbs_read.specs.declared.token.TokenKind.TheVariants.{ThenWord, Comma, Equals, OpenCurly, OpenRound}
+use Rattle.pbs_read.specs.declared.token.TokenKind.TheVariants.{OpenSquare, CloseSquare, Bar, Tilde, Ampersand, Colon}
+use Rattle.pbs_read.specs.Grammar.{token, Second, bit_kind, version_kind, Numeral, numeral_kind, AllPhrase, TermPhrase}
+use Rattle.pbs_read.specs.Grammar.{ExprPhrase, SeqPhrase, ItemPhrase, PrimPhrase, GroupPhrase, InputPhrase}
+use Rattle.pbs_read.specs.Grammar.{InputsPhrase, NamesPhrase, SetsPhrase, DeclsPhrase, TextPhrase, all_tokens}
+use Rattle.pbs_read.specs.Grammar.{term_tokens, expr_tokens, seq_tokens, item_tokens, prim_tokens, group_tokens}
+use Rattle.pbs_read.specs.Grammar.{input_tokens, inputs_tokens, names_tokens, sets_tokens, decls_tokens, head_tokens}
+use Rattle.pbs_read.specs.Grammar.{text_tokens}
 
 -- ---- where a phrase of each kind is wanted
 

@@ -1,5 +1,6 @@
 -- Reading as a function on tokens: the phrase, or the first refusal by rule 3 or 4.
-use Rattle.std.specs.Prelude.{ℕ, zero, suc, Bool, false, List, [], ◌∷◌, Option, Some, None, Result, Ok, Err, nat_lt, if◌then◌else◌}
+use Rattle.std.specs.Prelude.{ℕ, zero, suc, Bool, false, List, [], ◌∷◌, Option, Some, None, Result, Ok, Err, nat_lt}
+use Rattle.std.specs.Prelude.{if◌then◌else◌}
 use Rattle.pbs_base.specs.declared.refusal.Span.{Span}
 use Rattle.pbs_base.specs.declared.refusal.Refusal.{Refusal}
 use Rattle.pbs_base.specs.declared.refusal.Subject.TheVariants.{Spec}
@@ -7,7 +8,10 @@ use Rattle.pbs_read.specs.declared.token.Token.{Token}
 use Rattle.pbs_read.specs.declared.token.TokenKind.{TokenKind}
 use Rattle.pbs_read.specs.declared.token.TokenKind.TheVariants.{OpenRound, Tilde}
 use Rattle.pbs_read.specs.Grammar.{TextPhrase}
-use Rattle.pbs_read.specs.Places.{ExprHole, OfGroup, OfProd, OfMain, SeqHole, FirstSeq, NextSeq, ItemHole, FirstItem, NextItem, GroupHole, AsPrim, OfHold, OfBody, OfTrap, OfAfter, TermHole, OfTerminal, OfGuard, InRound, AllHole, FirstAll, NextAll, UnitHole, UnderNot, FirstUnit, NextUnit, Place, WantsItem, WantsGroup, InGroup, WantsUnit, Whole}
+use Rattle.pbs_read.specs.Places.{ExprHole, OfGroup, OfProd, OfMain, SeqHole, FirstSeq, NextSeq, ItemHole, FirstItem}
+use Rattle.pbs_read.specs.Places.{NextItem, GroupHole, AsPrim, OfHold, OfBody, OfTrap, OfAfter, TermHole, OfTerminal}
+use Rattle.pbs_read.specs.Places.{OfGuard, InRound, AllHole, FirstAll, NextAll, UnitHole, UnderNot, FirstUnit, NextUnit}
+use Rattle.pbs_read.specs.Places.{Place, WantsItem, WantsGroup, InGroup, WantsUnit, Whole}
 use Rattle.pbs_read.specs.Steps.{step}
 
 -- how many `(` are open and how many `~` wait for the end of their operand

@@ -4,9 +4,31 @@ use Rattle.pbs_base.specs.declared.refusal.Span.{Span}
 use Rattle.pbs_read.specs.declared.token.Token.{Token}
 use Rattle.pbs_read.specs.declared.token.Operator.TheVariants.{StarOp, PlusOp, OptOp}
 use Rattle.pbs_read.specs.declared.token.TokenKind.{TokenKind}
-use Rattle.pbs_read.specs.declared.token.TokenKind.TheVariants.{Name, Zero, One, Two, Digit, Number, SpecWord, InputWord, ActionWord, LevelWord, ProdWord, MainWord, HoldWord, TryWord, AbortWord, ThenWord, Semicolon, Comma, Equals, OpenCurly, CloseCurly, OpenRound, CloseRound, OpenSquare, CloseSquare, Bar, Star, Plus, Question, Tilde, Ampersand, Colon}
-use Rattle.pbs_read.specs.Grammar.{Second, Numeral, ZeroNumeral, OneNumeral, TwoNumeral, DigitNumeral, LongNumeral, Width, OneBit, TwoBits, MoreBits, UnitPhrase, Negated, Bracketed, Named, Bit, Compared, AllPhrase, OneUnit, MoreUnits, TermPhrase, OneAll, MoreAlls, ExprPhrase, OneSeq, MoreSeqs, SeqPhrase, OneItem, MoreItems, ItemPhrase, Plain, Repeated, Counted, PrimPhrase, Terminal, Action, Call, Grouped, Hold, Try, GroupPhrase, EmptyGroup, FullGroup, InputPhrase, OneWire, Bus, InputsPhrase, OneInput, MoreInputs, OneName, MoreNames, SetsPhrase, NoSets, MoreSets, DeclPhrase, InputDecl, ActionDecl, LevelDecl, ProdDecl, NoDecls, MoreDecls, SpecPhrase, OfVersion}
-use Rattle.pbs_read.specs.Places.{Front, ExprHole, OfGroup, OfProd, OfMain, SeqHole, FirstSeq, NextSeq, ItemHole, FirstItem, NextItem, GroupHole, AsPrim, OfHold, OfBody, OfTrap, OfAfter, TermHole, OfTerminal, OfGuard, InRound, AllHole, FirstAll, NextAll, UnitHole, UnderNot, FirstUnit, NextUnit, InputHole, FirstInput, NextInput, NameHole, FirstName, NextName, LevelFront, Place, Start, AfterSpec, AfterVersion, InDecls, WantsInput, AfterInputName, WantsWidth, AfterInput, WantsName, AfterName, AfterLevel, AfterLevelName, AfterLevelEquals, AfterLevelBit, InLevel, AfterSetName, AfterSetColon, AfterSetBit, AfterProd, AfterProdName, AfterMain, WantsItem, WantsGroup, InGroup, InCurly, AfterActionName, AfterHold, AfterGuard, AfterBody, AfterTrap, AfterPrim, WantsLeast, AfterLeast, WantsMost, AfterMost, AfterItem, WantsUnit, AfterUnitName, WantsNumber, AfterUnit, Whole}
+use Rattle.pbs_read.specs.declared.token.TokenKind.TheVariants.{Name, Zero, One, Two, Digit, Number, SpecWord}
+use Rattle.pbs_read.specs.declared.token.TokenKind.TheVariants.{InputWord, ActionWord, LevelWord, ProdWord, MainWord}
+use Rattle.pbs_read.specs.declared.token.TokenKind.TheVariants.{HoldWord, TryWord, AbortWord, ThenWord, Semicolon}
+use Rattle.pbs_read.specs.declared.token.TokenKind.TheVariants.{Comma, Equals, OpenCurly, CloseCurly, OpenRound}
+use Rattle.pbs_read.specs.declared.token.TokenKind.TheVariants.{CloseRound, OpenSquare, CloseSquare, Bar, Star, Plus}
+use Rattle.pbs_read.specs.declared.token.TokenKind.TheVariants.{Question, Tilde, Ampersand, Colon}
+use Rattle.pbs_read.specs.Grammar.{Second, Numeral, ZeroNumeral, OneNumeral, TwoNumeral, DigitNumeral, LongNumeral}
+use Rattle.pbs_read.specs.Grammar.{Width, OneBit, TwoBits, MoreBits, UnitPhrase, Negated, Bracketed, Named, Bit}
+use Rattle.pbs_read.specs.Grammar.{Compared, AllPhrase, OneUnit, MoreUnits, TermPhrase, OneAll, MoreAlls, ExprPhrase}
+use Rattle.pbs_read.specs.Grammar.{OneSeq, MoreSeqs, SeqPhrase, OneItem, MoreItems, ItemPhrase, Plain, Repeated}
+use Rattle.pbs_read.specs.Grammar.{Counted, PrimPhrase, Terminal, Action, Call, Grouped, Hold, Try, GroupPhrase}
+use Rattle.pbs_read.specs.Grammar.{EmptyGroup, FullGroup, InputPhrase, OneWire, Bus, InputsPhrase, OneInput, MoreInputs}
+use Rattle.pbs_read.specs.Grammar.{OneName, MoreNames, SetsPhrase, NoSets, MoreSets, DeclPhrase, InputDecl, ActionDecl}
+use Rattle.pbs_read.specs.Grammar.{LevelDecl, ProdDecl, NoDecls, MoreDecls, SpecPhrase, OfVersion}
+use Rattle.pbs_read.specs.Places.{Front, ExprHole, OfGroup, OfProd, OfMain, SeqHole, FirstSeq, NextSeq, ItemHole}
+use Rattle.pbs_read.specs.Places.{FirstItem, NextItem, GroupHole, AsPrim, OfHold, OfBody, OfTrap, OfAfter, TermHole}
+use Rattle.pbs_read.specs.Places.{OfTerminal, OfGuard, InRound, AllHole, FirstAll, NextAll, UnitHole, UnderNot}
+use Rattle.pbs_read.specs.Places.{FirstUnit, NextUnit, InputHole, FirstInput, NextInput, NameHole, FirstName, NextName}
+use Rattle.pbs_read.specs.Places.{LevelFront, Place, Start, AfterSpec, AfterVersion, InDecls, WantsInput}
+use Rattle.pbs_read.specs.Places.{AfterInputName, WantsWidth, AfterInput, WantsName, AfterName, AfterLevel}
+use Rattle.pbs_read.specs.Places.{AfterLevelName, AfterLevelEquals, AfterLevelBit, InLevel, AfterSetName, AfterSetColon}
+use Rattle.pbs_read.specs.Places.{AfterSetBit, AfterProd, AfterProdName, AfterMain, WantsItem, WantsGroup, InGroup}
+use Rattle.pbs_read.specs.Places.{InCurly, AfterActionName, AfterHold, AfterGuard, AfterBody, AfterTrap, AfterPrim}
+use Rattle.pbs_read.specs.Places.{WantsLeast, AfterLeast, WantsMost, AfterMost, AfterItem, WantsUnit, AfterUnitName}
+use Rattle.pbs_read.specs.Places.{WantsNumber, AfterUnit, Whole}
 
 -- ---- kinds of tokens that belong together
 

@@ -13,8 +13,10 @@ use Rattle.pbs_read.specs.declared.token.TokenKind.{TokenKind}
 use Rattle.pbs_read.specs.declared.token.TokenKind.TheVariants.{InputWord, ActionWord, LevelWord, ProdWord}
 use Rattle.pbs_read.specs.Bare.{bare_prod}
 use Rattle.pbs_read.specs.Grammar.{token, DeclPhrase, DeclsPhrase, ExprPhrase, TextPhrase}
-use Rattle.pbs_read.specs.Trees.{Declared, nothing_declared, with_decl, declared_by, expr_tree, version_number, text_spec}
-use Rattle.pbs_read.specs.Places.{Front, FirstInput, FirstName, Place, Start, InDecls, WantsInput, WantsName, AfterLevel, AfterProd}
+use Rattle.pbs_read.specs.Trees.{Declared, nothing_declared, with_decl, declared_by, expr_tree, version_number}
+use Rattle.pbs_read.specs.Trees.{text_spec}
+use Rattle.pbs_read.specs.Places.{Front, FirstInput, FirstName, Place, Start, InDecls, WantsInput, WantsName}
+use Rattle.pbs_read.specs.Places.{AfterLevel, AfterProd}
 use Rattle.pbs_read.specs.Steps.{with_next, first_front, whole_spec}
 use Rattle.pbs_read.specs.Grammar.{OfVersion}
 use Rattle.pbs_read.specs.Reading.{read}

@@ -14,7 +14,15 @@ use Rattle.pbs_ast.specs.declared.syntax.Spec.{Spec}
 use Rattle.pbs_read.specs.declared.token.Operator.{Operator}
 use Rattle.pbs_read.specs.declared.token.Operator.TheVariants.{StarOp, PlusOp, OptOp}
 use Rattle.pbs_read.specs.Bare.{no_place, expr}
-use Rattle.pbs_read.specs.Grammar.{Numeral, ZeroNumeral, OneNumeral, TwoNumeral, DigitNumeral, LongNumeral, Width, OneBit, TwoBits, MoreBits, UnitPhrase, Negated, Bracketed, Named, Bit, Compared, AllPhrase, OneUnit, MoreUnits, TermPhrase, OneAll, MoreAlls, ExprPhrase, OneSeq, MoreSeqs, SeqPhrase, OneItem, MoreItems, ItemPhrase, Plain, Repeated, Counted, PrimPhrase, Terminal, Action, Call, Grouped, Hold, Try, GroupPhrase, EmptyGroup, FullGroup, InputPhrase, OneWire, Bus, InputsPhrase, OneInput, MoreInputs, NamesPhrase, OneName, MoreNames, SetsPhrase, NoSets, MoreSets, DeclPhrase, InputDecl, ActionDecl, LevelDecl, ProdDecl, DeclsPhrase, NoDecls, MoreDecls, SpecPhrase, TextPhrase, OfVersion}
+use Rattle.pbs_read.specs.Grammar.{Numeral, ZeroNumeral, OneNumeral, TwoNumeral, DigitNumeral, LongNumeral, Width}
+use Rattle.pbs_read.specs.Grammar.{OneBit, TwoBits, MoreBits, UnitPhrase, Negated, Bracketed, Named, Bit, Compared}
+use Rattle.pbs_read.specs.Grammar.{AllPhrase, OneUnit, MoreUnits, TermPhrase, OneAll, MoreAlls, ExprPhrase, OneSeq}
+use Rattle.pbs_read.specs.Grammar.{MoreSeqs, SeqPhrase, OneItem, MoreItems, ItemPhrase, Plain, Repeated, Counted}
+use Rattle.pbs_read.specs.Grammar.{PrimPhrase, Terminal, Action, Call, Grouped, Hold, Try, GroupPhrase, EmptyGroup}
+use Rattle.pbs_read.specs.Grammar.{FullGroup, InputPhrase, OneWire, Bus, InputsPhrase, OneInput, MoreInputs}
+use Rattle.pbs_read.specs.Grammar.{NamesPhrase, OneName, MoreNames, SetsPhrase, NoSets, MoreSets, DeclPhrase, InputDecl}
+use Rattle.pbs_read.specs.Grammar.{ActionDecl, LevelDecl, ProdDecl, DeclsPhrase, NoDecls, MoreDecls, SpecPhrase}
+use Rattle.pbs_read.specs.Grammar.{TextPhrase, OfVersion}
 
 abbrev pub numeral_value : Numeral → ℕ
 numeral_value ZeroNumeral = 0

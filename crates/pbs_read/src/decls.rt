@@ -1,12 +1,15 @@
 // Declarations.
-ghost use Rattle.std.specs.Prelude.{ℕ, Bool, ◌≡◌, ◌≤◌, ◌<◌, ◌+◌, ◌∷◌, ◌++◌, [], length, true, IfOk, IfErr, MatchOption, option_map};
+ghost use Rattle.std.specs.Prelude.{ℕ, Bool, ◌≡◌, ◌≤◌, ◌<◌, ◌+◌, ◌∷◌, ◌++◌, [], length, true, IfOk, IfErr, MatchOption};
+ghost use Rattle.std.specs.Prelude.{option_map};
 ghost use Rattle.pbs_read.specs.Bare.{bare_prod};
 ghost use Rattle.pbs_read.specs.Grammar.{token};
 ghost use Rattle.pbs_read.specs.Steps.{bit_of, width_of};
 ghost use Rattle.pbs_read.specs.Trees.{width_value, declared};
 ghost use Rattle.pbs_read.specs.Descent.{NoFront, BeginsWith, front_refusal};
 ghost use Rattle.pbs_read.specs.declared.token.TokenKind.TheVariants.{Name};
-ghost use Rattle.pbs_read.specs.DeclDescent.{TakesBit, ReadsWidth, StopsWidth, ReadsInput, StopsInput, ReadsInputs, StopsInputs, ReadsNames, StopsNames, ReadsSet, StopsSet, ReadsSets, StopsSets, ReadsLevelHead, StopsLevel, ReadsLevel, ReadsProd, StopsProd};
+ghost use Rattle.pbs_read.specs.DeclDescent.{TakesBit, ReadsWidth, StopsWidth, ReadsInput, StopsInput, ReadsInputs};
+ghost use Rattle.pbs_read.specs.DeclDescent.{StopsInputs, ReadsNames, StopsNames, ReadsSet, StopsSet, ReadsSets};
+ghost use Rattle.pbs_read.specs.DeclDescent.{StopsSets, ReadsLevelHead, StopsLevel, ReadsLevel, ReadsProd, StopsProd};
 
 use crate::common::{behind, expect, front, second, stop, word};
 use crate::exprs::expr;
@@ -29,7 +32,8 @@ fn bit_value(kind: TokenKind) -> Option<bool>
 // The bit that has to come next.
 fn expect_bit(tokens: &[Token], end: u32) -> Result<(bool, &[Token]), ReadSpec>
     ensures ok { IfOk result (λ x. TakesBit tokens.now x.0 x.1.now) }
-    ensures err { IfErr result (λ e. (e ≡ ReadSpec.Refused (front_refusal end tokens.now)) × NoFront bit_of tokens.now) }
+    ensures err { IfErr result (λ e. (e ≡ ReadSpec.Refused (front_refusal end tokens.now)) × NoFront bit_of
+        tokens.now) }
 {
     let Some((first, rest)) = front(tokens) else {
         return Err(stop(tokens, end));

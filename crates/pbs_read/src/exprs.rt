@@ -5,8 +5,11 @@ ghost use Rattle.pbs_read.specs.Trees.{joined, repeat_node, word_at};
 ghost use Rattle.pbs_read.specs.Grammar.{token};
 ghost use Rattle.pbs_read.specs.Places.{WantsItem};
 ghost use Rattle.pbs_read.specs.Reading.{item_nesting};
-ghost use Rattle.pbs_read.specs.Descent.{Stops, ReadsGroup, StopsGroup, ReadsPrim, ReadsItem, StopsItem, ReadsSeq, StopsSeq, ReadsExpr, StopsExpr, ReadsBounds, StopsBounds, ReadsGuard, after_hold, BeginsWith};
-ghost use Rattle.pbs_read.specs.declared.token.TokenKind.TheVariants.{Name, OpenCurly, OpenSquare, HoldWord, TryWord, Comma, Bar};
+ghost use Rattle.pbs_read.specs.Descent.{Stops, ReadsGroup, StopsGroup, ReadsPrim, ReadsItem, StopsItem, ReadsSeq};
+ghost use Rattle.pbs_read.specs.Descent.{StopsSeq, ReadsExpr, StopsExpr, ReadsBounds, StopsBounds, ReadsGuard};
+ghost use Rattle.pbs_read.specs.Descent.{after_hold, BeginsWith};
+ghost use Rattle.pbs_read.specs.declared.token.TokenKind.TheVariants.{Name, OpenCurly, OpenSquare, HoldWord, TryWord};
+ghost use Rattle.pbs_read.specs.declared.token.TokenKind.TheVariants.{Comma, Bar};
 
 use crate::common::{
     MAX_NESTING, behind, expect, front, numeral, operator, refused, second, stop, word,
@@ -253,7 +256,8 @@ fn prim<'a>(
     end: u32,
 ) -> Result<(Part, &'a [Token]), ReadSpec>
     requires { depth ≤ 64 }
-    ensures ok { IfOk result (λ x. ReadsPrim two bytes.now end depth tokens.now (bare_expr x.0.tree) x.0.extent x.1.now) }
+    ensures ok { IfOk result (λ x. ReadsPrim two bytes.now end depth tokens.now (bare_expr x.0.tree) x.0.extent
+        x.1.now) }
     ensures err { IfErr result (λ e. StopsItem two end depth tokens.now e) }
 {
     let Some((first, rest)) = front(tokens) else {
@@ -295,7 +299,8 @@ fn item<'a>(
     end: u32,
 ) -> Result<(Part, &'a [Token]), ReadSpec>
     requires { depth ≤ 64 }
-    ensures ok { IfOk result (λ x. ReadsItem two bytes.now end depth tokens.now (bare_expr x.0.tree) x.0.extent x.1.now) }
+    ensures ok { IfOk result (λ x. ReadsItem two bytes.now end depth tokens.now (bare_expr x.0.tree) x.0.extent
+        x.1.now) }
     ensures err { IfErr result (λ e. StopsItem two end depth tokens.now e) }
 {
     let (inner, rest) = prim(alloc, bytes, two, tokens, depth, end)?;
@@ -322,7 +327,8 @@ fn seq<'a>(
     end: u32,
 ) -> Result<(Part, &'a [Token]), ReadSpec>
     requires { depth ≤ 64 }
-    ensures ok { IfOk result (λ x. ReadsSeq two bytes.now end depth tokens.now (bare_expr x.0.tree) x.0.extent x.1.now) }
+    ensures ok { IfOk result (λ x. ReadsSeq two bytes.now end depth tokens.now (bare_expr x.0.tree) x.0.extent
+        x.1.now) }
     ensures no_comma { IfOk result (λ x. BeginsWith Comma x.1.now → ⊥) }
     ensures err { IfErr result (λ e. StopsSeq two end depth tokens.now e) }
 {
@@ -357,7 +363,8 @@ pub(crate) fn expr<'a>(
     end: u32,
 ) -> Result<(Part, &'a [Token]), ReadSpec>
     requires { depth ≤ 64 }
-    ensures ok { IfOk result (λ x. ReadsExpr two bytes.now end depth tokens.now (bare_expr x.0.tree) x.0.extent x.1.now) }
+    ensures ok { IfOk result (λ x. ReadsExpr two bytes.now end depth tokens.now (bare_expr x.0.tree) x.0.extent
+        x.1.now) }
     ensures no_comma { IfOk result (λ x. BeginsWith Comma x.1.now → ⊥) }
     ensures no_bar { IfOk result (λ x. BeginsWith Bar x.1.now → ⊥) }
     ensures err { IfErr result (λ e. StopsExpr two end depth tokens.now e) }

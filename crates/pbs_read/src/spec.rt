@@ -1,5 +1,6 @@
 // Whole texts.
-ghost use Rattle.std.specs.Prelude.{ℕ, Bool, List, Result, ◌≡◌, ◌≤◌, ◌<◌, ◌+◌, ◌∷◌, ◌++◌, [], length, true, Ok, IfOk, IfErr, MatchOption, option_map};
+ghost use Rattle.std.specs.Prelude.{ℕ, Bool, List, Result, ◌≡◌, ◌≤◌, ◌<◌, ◌+◌, ◌∷◌, ◌++◌, [], length, true, Ok, IfOk};
+ghost use Rattle.std.specs.Prelude.{IfErr, MatchOption, option_map};
 ghost use Rattle.pbs_base.specs.declared.refusal.Refusal.{Refusal};
 ghost use Rattle.pbs_ast.specs.declared.syntax.Spec.{Spec};
 ghost use Rattle.pbs_read.specs.declared.fail.ReadSpec.TheVariants as answers;
@@ -9,7 +10,9 @@ ghost use Rattle.pbs_read.specs.Reading.{refusal};
 ghost use Rattle.pbs_read.specs.Steps.{version_of};
 ghost use Rattle.pbs_read.specs.Trees.{text_spec};
 ghost use Rattle.pbs_read.specs.Descent.{NoFront, front_refusal};
-ghost use Rattle.pbs_read.specs.TextDescent.{bare_lists, nothing_yet, made_spec, decl_word, ReadsVersion, StopsVersion, TakesDeclWord, ReadsDecl, StopsDecl, ReadsDecls, StopsDecls, ReadsMain, StopsMain, ReadsText, StopsText};
+ghost use Rattle.pbs_read.specs.TextDescent.{bare_lists, nothing_yet, made_spec, decl_word, ReadsVersion, StopsVersion};
+ghost use Rattle.pbs_read.specs.TextDescent.{TakesDeclWord, ReadsDecl, StopsDecl, ReadsDecls, StopsDecls, ReadsMain};
+ghost use Rattle.pbs_read.specs.TextDescent.{StopsMain, ReadsText, StopsText};
 ghost use Rattle.pbs_read.specs.Answers.{StandsFor, IsRefusedBy, Answers, Refuses, IsThe};
 
 use crate::common::{expect, front, stop};

@@ -5,7 +5,8 @@ ghost use Rattle.pbs_read.specs.Bare.{bare_term};
 ghost use Rattle.pbs_read.specs.Grammar.{token};
 ghost use Rattle.pbs_read.specs.Trees.{unit_tree};
 ghost use Rattle.pbs_read.specs.Marks.{kind_of};
-ghost use Rattle.pbs_read.specs.Descent.{ReadsUnit, StopsUnit, ReadsAll, StopsAll, ReadsTerm, StopsTerm, BeginsWith, front_refusal, negated_term};
+ghost use Rattle.pbs_read.specs.Descent.{ReadsUnit, StopsUnit, ReadsAll, StopsAll, ReadsTerm, StopsTerm, BeginsWith};
+ghost use Rattle.pbs_read.specs.Descent.{front_refusal, negated_term};
 ghost use Rattle.pbs_read.specs.declared.token.TokenKind.TheVariants.{Name, Equals, Tilde, OpenRound, Ampersand, Bar};
 
 use crate::common::{MAX_NESTING, behind, front, numeral, refused, second, stop, word};

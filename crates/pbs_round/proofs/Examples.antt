@@ -10,7 +10,10 @@ use Rattle.pbs_ast.specs.declared.syntax.SpecTerm.{SpecTerm}
 use Rattle.pbs_ast.specs.declared.syntax.Expr.{Expr}
 use Rattle.pbs_ast.specs.declared.syntax.Spec.{Spec}
 use Rattle.pbs_read.specs.Bare.{no_place, expr}
-use Rattle.pbs_read.specs.Grammar.{TwoNumeral, DigitNumeral, Negated, Bracketed, Named, OneUnit, MoreUnits, OneAll, OneSeq, MoreSeqs, OneItem, Plain, Counted, Terminal, Action, Call, Grouped, FullGroup, OneName, NoSets, MoreSets, ActionDecl, LevelDecl, NoDecls, MoreDecls, TextPhrase, OfVersion, text_tokens}
+use Rattle.pbs_read.specs.Grammar.{TwoNumeral, DigitNumeral, Negated, Bracketed, Named, OneUnit, MoreUnits, OneAll}
+use Rattle.pbs_read.specs.Grammar.{OneSeq, MoreSeqs, OneItem, Plain, Counted, Terminal, Action, Call, Grouped}
+use Rattle.pbs_read.specs.Grammar.{FullGroup, OneName, NoSets, MoreSets, ActionDecl, LevelDecl, NoDecls, MoreDecls}
+use Rattle.pbs_read.specs.Grammar.{TextPhrase, OfVersion, text_tokens}
 use Rattle.pbs_read.specs.Trees.{text_spec}
 use Rattle.pbs_read.specs.Places.{Start}
 use Rattle.pbs_read.specs.Reading.{read}

@@ -1,25 +1,32 @@
 -- The phrase of an expression's canonical text.
-use Rattle.std.proofs.Common.{◌≡◌, ℕ, suc, ◌≤◌, List, [], ◌∷◌, ◌++◌, length, map, Bool, true, refl, sym, ap, subst, ◌∙◌, append_assoc, append-nil, arith}
+use Rattle.std.proofs.Common.{◌≡◌, ℕ, suc, ◌≤◌, List, [], ◌∷◌, ◌++◌, length, map, Bool, true, refl, sym, ap, subst, ◌∙◌}
+use Rattle.std.proofs.Common.{append_assoc, append-nil, arith}
 use Rattle.std.specs.Prelude.{not}
 use Rattle.pbs_base.specs.declared.refusal.Span.{Span}
 use Rattle.pbs_ast.specs.declared.syntax.SpecTerm.{SpecTerm}
 use Rattle.pbs_ast.specs.declared.syntax.Expr.{Expr}
 use Rattle.pbs_ast.specs.declared.syntax.Kind as node
-use Rattle.pbs_ast.specs.declared.syntax.Kind.{Kind, Row_of-Expr, end_of-Expr, more_of-Expr, items-the_row-Expr, items_hidden-the_row-Expr-0}
+use Rattle.pbs_ast.specs.declared.syntax.Kind.{Kind, Row_of-Expr, end_of-Expr, more_of-Expr, items-the_row-Expr}
+use Rattle.pbs_ast.specs.declared.syntax.Kind.{items_hidden-the_row-Expr-0}
 use Rattle.pbs_ast.specs.declared.syntax.Kind.TheBlock.{hidden-the_row-Expr-0}
 use Rattle.pbs_read.specs.declared.token.Token.{Token}
 use Rattle.pbs_read.specs.declared.token.Operator.{Operator}
 use Rattle.pbs_read.specs.declared.token.Operator.TheVariants.{StarOp, PlusOp, OptOp}
 use Rattle.pbs_read.specs.declared.token.TokenKind.TheVariants as kind
 use Rattle.pbs_read.specs.Bare.{no_place, expr}
-use Rattle.pbs_read.specs.Grammar.{token, Second, numeral_kind, operator_kind, ExprPhrase, OneSeq, MoreSeqs, SeqPhrase, OneItem, MoreItems, ItemPhrase, Plain, Repeated, Counted, PrimPhrase, Terminal, Action, Call, Grouped, Hold, Try, GroupPhrase, EmptyGroup, FullGroup, term_tokens, expr_tokens, seq_tokens, item_tokens, prim_tokens, group_tokens}
-use Rattle.pbs_read.specs.Trees.{seq_node, choice_node, operator_node, expr_items, seq_items, item_tree, prim_tree, group_tree, seq_tree, expr_tree}
+use Rattle.pbs_read.specs.Grammar.{token, Second, numeral_kind, operator_kind, ExprPhrase, OneSeq, MoreSeqs, SeqPhrase}
+use Rattle.pbs_read.specs.Grammar.{OneItem, MoreItems, ItemPhrase, Plain, Repeated, Counted, PrimPhrase, Terminal}
+use Rattle.pbs_read.specs.Grammar.{Action, Call, Grouped, Hold, Try, GroupPhrase, EmptyGroup, FullGroup, term_tokens}
+use Rattle.pbs_read.specs.Grammar.{expr_tokens, seq_tokens, item_tokens, prim_tokens, group_tokens}
+use Rattle.pbs_read.specs.Trees.{seq_node, choice_node, operator_node, expr_items, seq_items, item_tree, prim_tree}
+use Rattle.pbs_read.specs.Trees.{group_tree, seq_tree, expr_tree}
 use Rattle.pbs_print.specs.Canonical.{is_empty, is_choice, is_list, is_wide}
 use Rattle.pbs_round.specs.Unspanned.{unspanned_term, unspanned_kind, unspanned_exprs, unspanned_expr, no_span}
 use Rattle.pbs_round.proofs.Pieces.{Piece, Blank, Sign, Stands, wrapped}
 use Rattle.pbs_round.proofs.Terms.{term_pieces, TermIs}
 use Rattle.pbs_round.proofs.TermPhrases.{too_few, none, map-end, either, finds_term}
-use Rattle.pbs_round.proofs.Exprs.{SeqOf, ChoiceOf, between, bounds_pieces, hold_word, try_word, abort_word, then_word, kind_pieces, list_pieces, rest_pieces, KindIs, KindsAre}
+use Rattle.pbs_round.proofs.Exprs.{SeqOf, ChoiceOf, between, bounds_pieces, hold_word, try_word, abort_word, then_word}
+use Rattle.pbs_round.proofs.Exprs.{kind_pieces, list_pieces, rest_pieces, KindIs, KindsAre}
 
 -- ---- a list of expressions apart from spans
 

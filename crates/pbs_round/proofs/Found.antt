@@ -1,5 +1,6 @@
 -- What the tokens of a text are: its names are words that aren't reserved, and its numbers are small.
-use Rattle.std.proofs.Common.{◌≡◌, ℕ, zero, suc, ◌+◌, ◌-◌, ◌<◌, ◌≤◌, List, [], ◌∷◌, length, take, drop, Bool, true, false, nat_lt, Option, Some, None, Result, Ok, Err, refl, sym, subst, arith}
+use Rattle.std.proofs.Common.{◌≡◌, ℕ, zero, suc, ◌+◌, ◌-◌, ◌<◌, ◌≤◌, List, [], ◌∷◌, length, take, drop, Bool, true}
+use Rattle.std.proofs.Common.{false, nat_lt, Option, Some, None, Result, Ok, Err, refl, sym, subst, arith}
 use Rattle.std.specs.Prelude.{if◌then◌else◌, ◌==◌, codes}
 use Rattle.std.specs.List.{prefix_len}
 use Rattle.std.specs.Str.{bytes_eq}
@@ -12,9 +13,12 @@ use Rattle.pbs_read.specs.declared.token.TokenKind.{TokenKind}
 use Rattle.pbs_read.specs.declared.token.TokenKind.TheVariants as kind
 use Rattle.pbs_read.specs.declared.piece.Piece.TheVariants as piece
 use Rattle.pbs_read.specs.declared.piece.Piece.{Piece}
-use Rattle.pbs_read.specs.Grammar.{token, Numeral, ZeroNumeral, OneNumeral, TwoNumeral, DigitNumeral, LongNumeral, numeral_kind}
+use Rattle.pbs_read.specs.Grammar.{token, Numeral, ZeroNumeral, OneNumeral, TwoNumeral, DigitNumeral, LongNumeral}
+use Rattle.pbs_read.specs.Grammar.{numeral_kind}
 use Rattle.pbs_read.specs.Trees.{word_at, numeral_value}
-use Rattle.pbs_read.specs.Lexing.{is_space, is_digit, is_letter, is_word_byte, late_kind, word_kind, digit_kind, number_kind, limited, bracket_piece, sign_piece, block_end, block_piece, slash_piece, word_piece, number_piece, first_piece, with_token, with_piece, lex}
+use Rattle.pbs_read.specs.Lexing.{is_space, is_digit, is_letter, is_word_byte, late_kind, word_kind, digit_kind}
+use Rattle.pbs_read.specs.Lexing.{number_kind, limited, bracket_piece, sign_piece, block_end, block_piece, slash_piece}
+use Rattle.pbs_read.specs.Lexing.{word_piece, number_piece, first_piece, with_token, with_piece, lex}
 use Rattle.pbs_round.proofs.Nesting.{Opened, closed, behind, is_over, Shallow}
 use Rattle.pbs_round.proofs.Pieces.{chosen, all_pass, both, word_byte, IsWord, IsSmall, all_digits, onward}
 

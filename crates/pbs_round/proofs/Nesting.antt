@@ -1,14 +1,34 @@
 -- What is open at a place, from the kinds of the tokens before it; so nesting is a matter of kinds alone.
-use Rattle.std.proofs.Common.{◌≡◌, ℕ, suc, ◌≤◌, List, [], ◌∷◌, length, Bool, cond, true, false, nat_lt, Option, Some, None, Ok, Err, refl, sym, ap, subst, ◌∙◌, arith}
+use Rattle.std.proofs.Common.{◌≡◌, ℕ, suc, ◌≤◌, List, [], ◌∷◌, length, Bool, cond, true, false, nat_lt, Option, Some}
+use Rattle.std.proofs.Common.{None, Ok, Err, refl, sym, ap, subst, ◌∙◌, arith}
 use Rattle.std.specs.Prelude.{IfSome, option_map, option_and_then}
 use Rattle.pbs_base.specs.declared.refusal.Span.{Span}
 use Rattle.pbs_read.specs.declared.token.Token.{Token}
 use Rattle.pbs_read.specs.declared.token.TokenKind.{TokenKind}
-use Rattle.pbs_read.specs.declared.token.TokenKind.TheVariants.{Name, Zero, One, Two, Digit, Number, SpecWord, InputWord, ActionWord, LevelWord, ProdWord, MainWord, HoldWord, TryWord, AbortWord, ThenWord, Semicolon, Comma, Equals, OpenCurly, CloseCurly, OpenRound, CloseRound, OpenSquare, CloseSquare, Bar, Star, Plus, Question, Tilde, Ampersand, Colon}
-use Rattle.pbs_read.specs.Grammar.{ZeroNumeral, OneNumeral, TwoNumeral, DigitNumeral, LongNumeral, UnitPhrase, Negated, Bracketed, Named, Bit, Compared, AllPhrase, TermPhrase, ExprPhrase, ItemPhrase, Plain, GroupPhrase, TextPhrase}
-use Rattle.pbs_read.specs.Places.{ExprHole, OfGroup, OfProd, OfMain, SeqHole, FirstSeq, NextSeq, ItemHole, FirstItem, NextItem, GroupHole, AsPrim, OfHold, OfBody, OfTrap, OfAfter, TermHole, OfTerminal, OfGuard, InRound, AllHole, FirstAll, NextAll, UnitHole, UnderNot, FirstUnit, NextUnit, NameHole, FirstName, NextName, Place, Start, AfterSpec, AfterVersion, InDecls, WantsInput, AfterInputName, WantsWidth, AfterInput, WantsName, AfterName, AfterLevel, AfterLevelName, AfterLevelEquals, AfterLevelBit, InLevel, AfterSetName, AfterSetColon, AfterSetBit, AfterProd, AfterProdName, AfterMain, WantsItem, WantsGroup, InGroup, InCurly, AfterActionName, AfterHold, AfterGuard, AfterBody, AfterTrap, AfterPrim, WantsLeast, AfterLeast, WantsMost, AfterMost, AfterItem, WantsUnit, AfterUnitName, WantsNumber, AfterUnit, Whole}
-use Rattle.pbs_read.specs.Steps.{second, unit_hole, unit_all, with_unit, with_group, with_all, term_hole, seq_hole, expr_hole, with_name, close_round, close_square, close_group, close_expr, end_unit, start_item, end_item, step, walk}
-use Rattle.pbs_read.specs.Reading.{expr_nesting, seq_nesting, item_nesting, group_nesting, term_nesting, all_nesting, unit_nesting, refusal, is_too_deep, stepped, bind, read}
+use Rattle.pbs_read.specs.declared.token.TokenKind.TheVariants.{Name, Zero, One, Two, Digit, Number, SpecWord}
+use Rattle.pbs_read.specs.declared.token.TokenKind.TheVariants.{InputWord, ActionWord, LevelWord, ProdWord, MainWord}
+use Rattle.pbs_read.specs.declared.token.TokenKind.TheVariants.{HoldWord, TryWord, AbortWord, ThenWord, Semicolon}
+use Rattle.pbs_read.specs.declared.token.TokenKind.TheVariants.{Comma, Equals, OpenCurly, CloseCurly, OpenRound}
+use Rattle.pbs_read.specs.declared.token.TokenKind.TheVariants.{CloseRound, OpenSquare, CloseSquare, Bar, Star, Plus}
+use Rattle.pbs_read.specs.declared.token.TokenKind.TheVariants.{Question, Tilde, Ampersand, Colon}
+use Rattle.pbs_read.specs.Grammar.{ZeroNumeral, OneNumeral, TwoNumeral, DigitNumeral, LongNumeral, UnitPhrase, Negated}
+use Rattle.pbs_read.specs.Grammar.{Bracketed, Named, Bit, Compared, AllPhrase, TermPhrase, ExprPhrase, ItemPhrase}
+use Rattle.pbs_read.specs.Grammar.{Plain, GroupPhrase, TextPhrase}
+use Rattle.pbs_read.specs.Places.{ExprHole, OfGroup, OfProd, OfMain, SeqHole, FirstSeq, NextSeq, ItemHole, FirstItem}
+use Rattle.pbs_read.specs.Places.{NextItem, GroupHole, AsPrim, OfHold, OfBody, OfTrap, OfAfter, TermHole, OfTerminal}
+use Rattle.pbs_read.specs.Places.{OfGuard, InRound, AllHole, FirstAll, NextAll, UnitHole, UnderNot, FirstUnit, NextUnit}
+use Rattle.pbs_read.specs.Places.{NameHole, FirstName, NextName, Place, Start, AfterSpec, AfterVersion, InDecls}
+use Rattle.pbs_read.specs.Places.{WantsInput, AfterInputName, WantsWidth, AfterInput, WantsName, AfterName, AfterLevel}
+use Rattle.pbs_read.specs.Places.{AfterLevelName, AfterLevelEquals, AfterLevelBit, InLevel, AfterSetName, AfterSetColon}
+use Rattle.pbs_read.specs.Places.{AfterSetBit, AfterProd, AfterProdName, AfterMain, WantsItem, WantsGroup, InGroup}
+use Rattle.pbs_read.specs.Places.{InCurly, AfterActionName, AfterHold, AfterGuard, AfterBody, AfterTrap, AfterPrim}
+use Rattle.pbs_read.specs.Places.{WantsLeast, AfterLeast, WantsMost, AfterMost, AfterItem, WantsUnit, AfterUnitName}
+use Rattle.pbs_read.specs.Places.{WantsNumber, AfterUnit, Whole}
+use Rattle.pbs_read.specs.Steps.{second, unit_hole, unit_all, with_unit, with_group, with_all, term_hole, seq_hole}
+use Rattle.pbs_read.specs.Steps.{expr_hole, with_name, close_round, close_square, close_group, close_expr, end_unit}
+use Rattle.pbs_read.specs.Steps.{start_item, end_item, step, walk}
+use Rattle.pbs_read.specs.Reading.{expr_nesting, seq_nesting, item_nesting, group_nesting, term_nesting, all_nesting}
+use Rattle.pbs_read.specs.Reading.{unit_nesting, refusal, is_too_deep, stepped, bind, read}
 
 -- ---- what is open
 

@@ -1,19 +1,25 @@
 -- A text in pieces, and its tokens.
-use Rattle.std.proofs.Common.{◌≡◌, ℕ, zero, suc, ◌+◌, ◌-◌, ◌/◌, ◌%◌, ◌<◌, ◌≤◌, ◌^◌, List, [], ◌∷◌, ◌++◌, length, take, drop, Bool, true, false, nat_lt, Ok, refl, sym, ap, subst, ◌∙◌, append_assoc, length-append, arith}
+use Rattle.std.proofs.Common.{◌≡◌, ℕ, zero, suc, ◌+◌, ◌-◌, ◌/◌, ◌%◌, ◌<◌, ◌≤◌, ◌^◌, List, [], ◌∷◌, ◌++◌, length, take}
+use Rattle.std.proofs.Common.{drop, Bool, true, false, nat_lt, Ok, refl, sym, ap, subst, ◌∙◌, append_assoc}
+use Rattle.std.proofs.Common.{length-append, arith}
 use Rattle.std.specs.Prelude.{◌&&◌, ◌||◌, ◌==◌, if◌then◌else◌, decimal}
 use Rattle.std.specs.List.{prefix_len}
 use Rattle.std.specs.Int.{IsInRange}
 use Rattle.std.proofs.lemmas.Bool.Decides.{nat_tests}
-use Rattle.std.proofs.lemmas.Fmt.{decimal_digit, length-decimal-le, decimal_nonempty, digits_decimal, digits_value-decimal, decimal_step}
+use Rattle.std.proofs.lemmas.Fmt.{decimal_digit, length-decimal-le, decimal_nonempty, digits_decimal}
+use Rattle.std.proofs.lemmas.Fmt.{digits_value-decimal, decimal_step}
 use Rattle.std.proofs.lemmas.Str.Parse.{IsNumeralModel, IsDigitsTest, FoldsDigits, numerals_by_fold}
 use Rattle.pbs_base.specs.declared.refusal.Span.{Span}
 use Rattle.pbs_read.specs.declared.token.Token.{Token}
 use Rattle.pbs_read.specs.declared.token.TokenKind.{TokenKind}
 use Rattle.pbs_read.specs.declared.token.TokenKind.TheVariants as kind
 use Rattle.pbs_read.specs.declared.piece.Piece.TheVariants as piece
-use Rattle.pbs_read.specs.Grammar.{token, Numeral, ZeroNumeral, OneNumeral, TwoNumeral, DigitNumeral, LongNumeral, numeral_kind}
+use Rattle.pbs_read.specs.Grammar.{token, Numeral, ZeroNumeral, OneNumeral, TwoNumeral, DigitNumeral, LongNumeral}
+use Rattle.pbs_read.specs.Grammar.{numeral_kind}
 use Rattle.pbs_read.specs.Trees.{word_at, numeral_value}
-use Rattle.pbs_read.specs.Lexing.{is_space, is_digit, is_letter, is_word_byte, word_kind, decimal_from, digit_kind, number_kind, limited, word_piece, number_piece, first_piece, with_token, with_piece, lex}
+use Rattle.pbs_read.specs.Lexing.{is_space, is_digit, is_letter, is_word_byte, word_kind, decimal_from, digit_kind}
+use Rattle.pbs_read.specs.Lexing.{number_kind, limited, word_piece, number_piece, first_piece, with_token, with_piece}
+use Rattle.pbs_read.specs.Lexing.{lex}
 use Rattle.pbs_read.proofs.Lexes.{lex-piece, lex-end}
 use Rattle.pbs_print.specs.Canonical.{bracketed}
 use Rattle.pbs_round.proofs.Nesting.{Opened, Round, closed, behind, is_over, Shallow}

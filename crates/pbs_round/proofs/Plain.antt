@@ -11,9 +11,15 @@ use Rattle.pbs_ast.specs.declared.syntax.Level.{Level}
 use Rattle.pbs_ast.specs.declared.syntax.Prod.{Prod}
 use Rattle.pbs_ast.specs.declared.syntax.Spec.{Spec}
 use Rattle.pbs_read.specs.Bare.{no_place, expr, bare_term, bare_terms, bare_kind, bare_exprs, bare_prod, bare}
-use Rattle.pbs_print.specs.Canonical.{joined, bracketed, is_any, is_joined, is_empty, is_choice, is_list, is_wide, bit_text, bounds_text, term_text, all_members, any_members, kind_text, seq_members, choice_members, decl_text, decls_line, set_text, level_line, prod_line, canonical}
-use Rattle.pbs_print.proofs.JoinedPieces.{all_member, any_member, seq_member, choice_member, text-all, text-any, text-seq, text-choice}
-use Rattle.pbs_round.specs.Unspanned.{no_span, unspanned_term, unspanned_terms, unspanned_kind, unspanned_exprs, unspanned_expr, unspanned_decl, unspanned_set, unspanned_level, unspanned_prod, unspanned}
+use Rattle.pbs_print.specs.Canonical.{joined, bracketed, is_any, is_joined, is_empty, is_choice, is_list, is_wide}
+use Rattle.pbs_print.specs.Canonical.{bit_text, bounds_text, term_text, all_members, any_members, kind_text}
+use Rattle.pbs_print.specs.Canonical.{seq_members, choice_members, decl_text, decls_line, set_text, level_line}
+use Rattle.pbs_print.specs.Canonical.{prod_line, canonical}
+use Rattle.pbs_print.proofs.JoinedPieces.{all_member, any_member, seq_member, choice_member, text-all, text-any}
+use Rattle.pbs_print.proofs.JoinedPieces.{text-seq, text-choice}
+use Rattle.pbs_round.specs.Unspanned.{no_span, unspanned_term, unspanned_terms, unspanned_kind, unspanned_exprs}
+use Rattle.pbs_round.specs.Unspanned.{unspanned_expr, unspanned_decl, unspanned_set, unspanned_level, unspanned_prod}
+use Rattle.pbs_round.specs.Unspanned.{unspanned}
 use Rattle.pbs_round.proofs.TermPhrases.{unspanned-row}
 use Rattle.pbs_round.proofs.ExprPhrases as exprs
 use Rattle.pbs_round.proofs.LinePhrases.{spec_same}

@@ -1,13 +1,16 @@
 -- A term that is read can be written: its canonical brackets are no deeper than those of its text.
-use Rattle.std.proofs.Common.{◌≡◌, ℕ, suc, ◌<◌, ◌≤◌, List, [], ◌∷◌, ◌++◌, length, Bool, true, false, nat_lt, refl, sym, ap, subst, ◌∙◌, append_assoc, arith}
+use Rattle.std.proofs.Common.{◌≡◌, ℕ, suc, ◌<◌, ◌≤◌, List, [], ◌∷◌, ◌++◌, length, Bool, true, false, nat_lt, refl, sym}
+use Rattle.std.proofs.Common.{ap, subst, ◌∙◌, append_assoc, arith}
 use Rattle.std.proofs.lemmas.Bool.Decides.{nat_tests}
 use Rattle.std.proofs.lemmas.List.{length-map}
 use Rattle.pbs_ast.specs.declared.syntax.SpecTerm as node
-use Rattle.pbs_ast.specs.declared.syntax.SpecTerm.{SpecTerm, Row_of-SpecTerm, end_of-SpecTerm, more_of-SpecTerm, items-the_row-SpecTerm, items_hidden-the_row-SpecTerm-0}
+use Rattle.pbs_ast.specs.declared.syntax.SpecTerm.{SpecTerm, Row_of-SpecTerm, end_of-SpecTerm, more_of-SpecTerm}
+use Rattle.pbs_ast.specs.declared.syntax.SpecTerm.{items-the_row-SpecTerm, items_hidden-the_row-SpecTerm-0}
 use Rattle.pbs_ast.specs.declared.syntax.SpecTerm.TheBlock.{hidden-the_row-SpecTerm-0}
 use Rattle.pbs_read.specs.declared.token.Token.{Token}
 use Rattle.pbs_read.specs.declared.token.TokenKind.TheVariants as kind
-use Rattle.pbs_read.specs.Grammar.{token, UnitPhrase, Negated, Bracketed, Named, Bit, Compared, AllPhrase, OneUnit, MoreUnits, TermPhrase, OneAll, MoreAlls, unit_tokens, all_tokens, term_tokens}
+use Rattle.pbs_read.specs.Grammar.{token, UnitPhrase, Negated, Bracketed, Named, Bit, Compared, AllPhrase, OneUnit}
+use Rattle.pbs_read.specs.Grammar.{MoreUnits, TermPhrase, OneAll, MoreAlls, unit_tokens, all_tokens, term_tokens}
 use Rattle.pbs_read.specs.Trees.{all_node, any_node, unit_tree, all_items, term_items, all_tree, term_tree}
 use Rattle.pbs_print.specs.Canonical.{is_joined}
 use Rattle.pbs_round.specs.Unspanned.{unspanned_term, unspanned_terms}

@@ -10,8 +10,9 @@ pub record PassesOn (before now : Option (List ℕ)) (text held : List ℕ) : Ty
   pub written : now ≡ append_known before front
 
 -- the text came behind what was held; after a fault a prefix of both was written
-pub record Holds {T E : Type 0} (before now : SinkState) (held held_now text : List ℕ) (result : Result T E) : Type 0 where
-  pub passed : OnOk result (PassesOn before.written now.written (held ++ text) held_now)
-  pub front : OnErr result (WritesFront before.written now.written (held ++ text))
-  pub later : before.faults ≤ now.faults
-  pub cause : OnErr result (Rose before.faults now.faults)
+pub record Holds {T E : Type 0} (before now : SinkState) (held held_now text : List ℕ) (result : Result T E) : Type 0
+  where
+    pub passed : OnOk result (PassesOn before.written now.written (held ++ text) held_now)
+    pub front : OnErr result (WritesFront before.written now.written (held ++ text))
+    pub later : before.faults ≤ now.faults
+    pub cause : OnErr result (Rose before.faults now.faults)

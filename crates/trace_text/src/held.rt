@@ -31,7 +31,8 @@ impl Held {
 
     /// Adds the piece to what is held. Where it doesn't fit, all is written first.
     pub fn write<K: Sink>(&mut self, sink: &mut K, piece: &[u8]) -> Result<(), WriteFail>
-        ensures { Holds (K.state sink.old) (K.state sink.new) (held_bytes self.old) (held_bytes self.new) piece.now result }
+        ensures { Holds (K.state sink.old) (K.state sink.new) (held_bytes self.old) (held_bytes self.new) piece.now
+            result }
     {
         if piece.len() <= ROOM - self.bytes.len() {
             self.keep(piece);

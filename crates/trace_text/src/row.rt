@@ -23,7 +23,8 @@ fn write_both<K: Sink>(
     first: &[u8],
     second: &[u8],
 ) -> Result<(), WriteFail>
-    ensures { Holds (K.state sink.old) (K.state sink.new) (held_bytes held.old) (held_bytes held.new) (first.now ++ second.now) result }
+    ensures { Holds (K.state sink.old) (K.state sink.new) (held_bytes held.old) (held_bytes held.new)
+        (first.now ++ second.now) result }
 {
     let Ok(()) = held.write(sink, first) else {
         return Err(WriteFail::Fault);
@@ -65,7 +66,8 @@ pub fn hold_row<K: Sink>(
 
 /// Adds the last line of a report that ends with its trace: how many entries there were.
 pub fn hold_end<K: Sink>(held: &mut Held, sink: &mut K, count: u64) -> Result<(), WriteFail>
-    ensures { Holds (K.state sink.old) (K.state sink.new) (held_bytes held.old) (held_bytes held.new) (last_line count End) result }
+    ensures { Holds (K.state sink.old) (K.state sink.new) (held_bytes held.old) (held_bytes held.new)
+        (last_line count End) result }
 {
     let mut digits = Buffer::new();
     let Ok(()) = write_both(held, sink, b"end ", digits.format(count).as_bytes()) else {

@@ -4,6 +4,7 @@ use Rattle.pbs_base.proofs.write.write_all.Goals as goal
 
 pub loop-rest-preserved : goal.loop-rest-preserved
 loop-rest-preserved g c = record {
-  so_far = one_piece_more _ _ _ _ c.loop-rest.rest.now c.in-Ok.n c.loop-rest.invariant.so_far c.in-Ok.ensures.puts.taken;
+  so_far = one_piece_more _ _ _ _ c.loop-rest.rest.now c.in-Ok.n c.loop-rest.invariant.so_far
+      c.in-Ok.ensures.puts.taken;
   later = omega arith;
 }

@@ -4,4 +4,5 @@ use Rattle.pbs_check.specs.Stages.{level_twice}
 use Rattle.pbs_check.proofs.declaring.levels_twice.Given as goal
 
 abbrev pub invariant-loop-level : goal.invariant-loop-level
-invariant-loop-level l = least_of l.found (least_by level_twice (drop l.level-index l.level-items)) ≡ least_by level_twice l.level-items
+invariant-loop-level l = least_of l.found (least_by level_twice (drop l.level-index l.level-items)) ≡ least_by
+    level_twice l.level-items

@@ -7,4 +7,5 @@ use Rattle.pbs_check.proofs.rules.rule_11.Goals as goal
 
 pub returns : goal.returns
 returns c =
-    let P : Option Span → Type 0 = IsLeast (Rule11 c.args.spec.now) in subst P (sym c.found_over.ensures) (rule_11_is c.args.spec.now)
+    let P : Option Span → Type 0 = IsLeast (Rule11 c.args.spec.now) in subst P (sym c.found_over.ensures)
+    (rule_11_is c.args.spec.now)

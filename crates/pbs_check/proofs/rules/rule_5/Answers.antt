@@ -10,4 +10,5 @@ use Rattle.pbs_check.proofs.rules.rule_5.Goals as goal
 pub returns : goal.returns
 returns c =
     let P : Option Span → Type 0 = IsLeast (Rule5 c.args.spec.now) in
-    ok_then c.found_twice.result c.found_twice.ensures (λ (o : Option Span) (is : o ≡ found_twice c.args.spec.now). subst P (sym is) (rule_5_is c.args.spec.now))
+    ok_then c.found_twice.result c.found_twice.ensures
+    (λ (o : Option Span) (is : o ≡ found_twice c.args.spec.now). subst P (sym is) (rule_5_is c.args.spec.now))

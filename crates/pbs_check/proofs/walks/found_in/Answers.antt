@@ -6,6 +6,8 @@ use Rattle.pbs_check.proofs.walks.found_in.Goals as goal
 pub returns : goal.returns
 returns c =
     let spec = c.args.spec.now in
-    two_least (own_broken c.args.look c.args.tables.now spec.inputs) (inside_prods spec.prods) (inside spec.main) c.prods_broken-prods.result c.expr_broken-main.result c.levels_broken-levels.result
+    two_least (own_broken c.args.look c.args.tables.now spec.inputs) (inside_prods spec.prods) (inside spec.main)
+    c.prods_broken-prods.result c.expr_broken-main.result c.levels_broken-levels.result
     (least_by (level_broken c.args.look c.args.tables.now) spec.levels) c.least_of.result c.least_of-2.result
-    c.prods_broken-prods.ensures c.expr_broken-main.ensures c.levels_broken-levels.ensures c.least_of.ensures c.least_of-2.ensures
+    c.prods_broken-prods.ensures c.expr_broken-main.ensures c.levels_broken-levels.ensures c.least_of.ensures
+    c.least_of-2.ensures

@@ -5,4 +5,5 @@ use Rattle.pbs_check.proofs.walks.sets_broken.Given as goal
 
 abbrev pub invariant-loop-set : goal.invariant-loop-set
 invariant-loop-set l =
-    least_of l.found (least_by (set_broken l.look l.tables) (drop l.set-index l.set-items)) ≡ least_by (set_broken l.look l.tables) l.set-items
+    least_of l.found (least_by (set_broken l.look l.tables) (drop l.set-index l.set-items)) ≡ least_by
+    (set_broken l.look l.tables) l.set-items

@@ -4,4 +4,5 @@ use Rattle.pbs_cli.proofs.top.run.Goals as goal
 
 pub returns-clause-complete : goal.returns-clause-complete
 returns-clause-complete g c =
-    rw c.code.ensures (complete _ _ _ _ _ c.perform.result c.perform.ensures.usage.0 (λ is. ap (λ o. (g.K.Sink.state o).written) (c.perform.ensures.untouched is).1) c.perform.ensures.ends)
+    rw c.code.ensures (complete _ _ _ _ _ c.perform.result c.perform.ensures.usage.0
+    (λ is. ap (λ o. (g.K.Sink.state o).written) (c.perform.ensures.untouched is).1) c.perform.ensures.ends)

@@ -1,5 +1,6 @@
 use Rattle.std.proofs.Common.{arith, ◌+◌}
-use Rattle.pbs_derive.proofs.Prefix.{covers_same, alive_same, abort_same, stands_same, fires_same, live_same, no_overlap_same}
+use Rattle.pbs_derive.proofs.Prefix.{covers_same, alive_same, abort_same, stands_same, fires_same, live_same}
+use Rattle.pbs_derive.proofs.Prefix.{no_overlap_same}
 use Rattle.pbs_derive.proofs.laws.by_prefix.Goals as goal
 
 pub returns-clause-covered : goal.returns-clause-covered

@@ -1,7 +1,8 @@
 -- Each node's tables are its step's.
 use Rattle.bool_terms.specs.Terms.{term_of}
 use Rattle.pbs_ast.specs.Trees.{spot_of, tree_of}
-use Rattle.pbs_derive.proofs.Steps.{empty_finished, action_finished, terminal_finished, seq_finished, choice_finished, star_finished, hold_finished, scope_finished}
+use Rattle.pbs_derive.proofs.Steps.{empty_finished, action_finished, terminal_finished, seq_finished, choice_finished}
+use Rattle.pbs_derive.proofs.Steps.{star_finished, hold_finished, scope_finished}
 use Rattle.pbs_derive.proofs.tables.+make_tables.Goals as goal
 
 pub returns-in-Empty : goal.returns-in-Empty

@@ -11,7 +11,8 @@ loop-n-preserved c =
     let bits : ℕ → Bool = λ k. slice_index_or sim.gates (output_gate sim.net k) false in
     elim c.if-output.branch [
       | then-output w ↦ subst (λ on. HasBits on bits (c.loop-n.n + 1)) (sym w.on-is)
-          (bit_on c.loop-n.on bits c.loop-n.n (omega (arith, c.requires.few)) c.loop-n.invariant (sym c.output.ensures ∙ w.if-output.true))
+          (bit_on c.loop-n.on bits c.loop-n.n (omega (arith, c.requires.few)) c.loop-n.invariant (sym c.output.ensures
+          ∙ w.if-output.true))
       | else-output w ↦ subst (λ on. HasBits on bits (c.loop-n.n + 1)) (sym w.on-is)
           (bit_off c.loop-n.on bits c.loop-n.n c.loop-n.invariant (sym c.output.ensures ∙ w.if-output.false))
     ]

@@ -18,5 +18,6 @@ pub returns-in-Err-Refused-clause-ends : goal.returns-in-Err-Refused-clause-ends
 returns-in-Err-Refused-clause-ends g c =
     let made : Makes c.args.text.now (Err (engine.Refused c.in-Err-Refused.refusal)) =
     rw c.in-Err-Refused.field-0-is at c.in-Err-Refused.ensures in
-    rw c.in-Err-Refused.field-0-is (text_refused c.args.text.now c.args.name.now c.in-Err-Refused.refusal (g.S.Shelf.state c.args.shelf.now)
+    rw c.in-Err-Refused.field-0-is (text_refused c.args.text.now c.args.name.now c.in-Err-Refused.refusal
+    (g.S.Shelf.state c.args.shelf.now)
     (g.K.Sink.state c.args.sink.now) made)

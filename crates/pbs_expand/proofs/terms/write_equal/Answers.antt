@@ -10,4 +10,5 @@ write_literals-requires c =
 
 pub returns-then-many-room : goal.returns-then-many-room
 returns-then-many-room c =
-    equal_over c.args.inputs.now c.args.name.now c.in-Some.bus c.args.number c.args.room c.in_ok-many.many (sym c.find_bus.ensures ∙ c.in-Some.is) c.in_ok-many.ensures c.if-many-room.true
+    equal_over c.args.inputs.now c.args.name.now c.in-Some.bus c.args.number c.args.room c.in_ok-many.many
+    (sym c.find_bus.ensures ∙ c.in-Some.is) c.in_ok-many.ensures c.if-many-room.true

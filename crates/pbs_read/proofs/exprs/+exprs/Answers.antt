@@ -3,7 +3,10 @@ use Rattle.std.proofs.lemmas.Result.{err_from_is_err_and}
 use Rattle.pbs_read.specs.Bare.{bare_expr}
 use Rattle.pbs_read.specs.declared.token.TokenKind.TheVariants.{Comma, Bar}
 use Rattle.pbs_read.proofs.TermExits.{begins, ok_then, err_then}
-use Rattle.pbs_read.proofs.ExprExits.{group_empty, group_full, group_stops, group_unclosed, prim_use, prim_group, prim_group_stops, hold_read, hold_stops, scope_read, scope_stops, item_plain, item_repeated, item_counted, item_uncounted, seq_one, seq_first, seq_more, seq_whole, expr_one, expr_first, expr_more, expr_whole}
+use Rattle.pbs_read.proofs.ExprExits.{group_empty, group_full, group_stops, group_unclosed, prim_use, prim_group}
+use Rattle.pbs_read.proofs.ExprExits.{prim_group_stops, hold_read, hold_stops, scope_read, scope_stops, item_plain}
+use Rattle.pbs_read.proofs.ExprExits.{item_repeated, item_counted, item_uncounted, seq_one, seq_first, seq_more}
+use Rattle.pbs_read.proofs.ExprExits.{seq_whole, expr_one, expr_first, expr_more, expr_whole}
 use Rattle.pbs_read.proofs.exprs.+exprs.Goals as goal
 
 pub group-returns-in-Some-behind-clause-ok : goal.group-returns-in-Some-behind-clause-ok

@@ -1,6 +1,7 @@
 use Rattle.std.proofs.Common.{false, true, [], ◌∷◌, ◌++◌, ap, ◌∙◌}
 use Rattle.pbs_read.specs.declared.token.TokenKind.TheVariants.{Ampersand, Bar}
-use Rattle.pbs_read.proofs.TermExits.{unit_bit, negated, bracketed, begins, all_one, all_first, all_more, all_whole, term_one, term_first, term_more, term_whole}
+use Rattle.pbs_read.proofs.TermExits.{unit_bit, negated, bracketed, begins, all_one, all_first, all_more, all_whole}
+use Rattle.pbs_read.proofs.TermExits.{term_one, term_first, term_more, term_whole}
 use Rattle.pbs_read.proofs.terms.+terms.Goals as goal
 
 pub negation-returns-clause-ok : goal.negation-returns-clause-ok

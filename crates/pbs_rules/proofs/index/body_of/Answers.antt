@@ -9,15 +9,18 @@ pub returns-in-Some-get : goal.returns-in-Some-get
 returns-in-Some-get c =
     let prods = c.args.prods.now in let name = c.args.name.now in
     ap (option_map (λ (p : Prod). p.body)) c.in-Some-get.ensures.value
-    ∙ sym (body_found prods name c.in-Some.number (number_is (prod_names prods) c.args.index.now name c.find.result (Some c.in-Some.number) c.requires c.find.ensures c.in-Some.is))
+    ∙ sym (body_found prods name c.in-Some.number (number_is (prod_names prods) c.args.index.now name c.find.result
+    (Some c.in-Some.number) c.requires c.find.ensures c.in-Some.is))
 
 pub returns-in-None-get : goal.returns-in-None-get
 returns-in-None-get c =
     let prods = c.args.prods.now in let name = c.args.name.now in
     ap (option_map (λ (p : Prod). p.body)) c.in-None-get.ensures.value
-    ∙ sym (body_found prods name c.in-Some.number (number_is (prod_names prods) c.args.index.now name c.find.result (Some c.in-Some.number) c.requires c.find.ensures c.in-Some.is))
+    ∙ sym (body_found prods name c.in-Some.number (number_is (prod_names prods) c.args.index.now name c.find.result
+    (Some c.in-Some.number) c.requires c.find.ensures c.in-Some.is))
 
 pub returns-in-None : goal.returns-in-None
 returns-in-None c =
     let prods = c.args.prods.now in let name = c.args.name.now in
-    sym (body_absent prods name (number_is (prod_names prods) c.args.index.now name c.find.result None c.requires c.find.ensures c.in-None.is))
+    sym (body_absent prods name (number_is (prod_names prods) c.args.index.now name c.find.result None c.requires
+    c.find.ensures c.in-None.is))

@@ -6,4 +6,5 @@ pub returns-in_default : goal.returns-in_default
 returns-in_default g c = end_cut _ _ _ _ _ _ _ _ (c.as_bytes.ensures.value ∙ c.format.ensures.text) c.in_default.ensures
 
 pub returns : goal.returns
-returns g c = end_held _ _ _ _ _ _ _ _ _ _ (c.as_bytes.ensures.value ∙ c.format.ensures.text) c.in-Ok.ensures c.write.ensures
+returns g c = end_held _ _ _ _ _ _ _ _ _ _ (c.as_bytes.ensures.value
+    ∙ c.format.ensures.text) c.in-Ok.ensures c.write.ensures

@@ -1,0 +1,9 @@
+use Rattle.pbs_cli.proofs.OneAnswer.{one_defined}
+use Rattle.pbs_cli.proofs.laws.one_answer.Goals as goal
+
+pub returns : goal.returns
+returns c = one_defined (record {
+  refusal = c.one_check.ensures.refusal;
+  apart = c.one_check.ensures.apart;
+  outcome = c.one_outcome.ensures;
+})
