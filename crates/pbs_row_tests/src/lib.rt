@@ -6,6 +6,8 @@ mod checks;
 #[cfg(test)]
 mod prefixes;
 #[cfg(test)]
+mod rules;
+#[cfg(test)]
 mod sizes;
 #[cfg(test)]
 mod texts;

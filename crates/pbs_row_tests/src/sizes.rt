@@ -58,9 +58,15 @@ fn depth(rt: HostRuntime) -> Result<(), Fail> {
     Ok(())
 }
 
-// 65 tildes, and as many as may be open.
+// 65 brackets or tildes, and as many as may be open.
 #[test]
 fn nesting(rt: HostRuntime) -> Result<(), Fail> {
+    let open = repeated(rt.alloc(), b"spec 1; input a; main = ", b'(', 65, b"[a]")?;
+    let text = repeated(rt.alloc(), open.as_slice(), b')', 65, b";")?;
+    assert!(rt; check(&rt, text.as_slice(), 1, b"spec refused rule 4 at 88..89\n")?);
+    let open = repeated(rt.alloc(), b"spec 1; input a; main = ", b'(', 64, b"[a]")?;
+    let text = repeated(rt.alloc(), open.as_slice(), b')', 64, b";")?;
+    assert!(rt; check(&rt, text.as_slice(), 0, ACCEPTED)?);
     let text = repeated(rt.alloc(), b"spec 1; input a; main = [", b'~', 65, b"a];")?;
     assert!(rt; check(&rt, text.as_slice(), 1, b"spec refused rule 4 at 89..90\n")?);
     let text = repeated(rt.alloc(), b"spec 1; input a; main = [", b'~', 64, b"a];")?;

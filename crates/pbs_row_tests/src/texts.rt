@@ -102,3 +102,23 @@ pub(crate) fn repeated(
     text.extend_from_slice(back)?;
     Ok(text)
 }
+
+/// `front`, then so many times the numbers from 0 on, each with `before` and `after` round it, and `back`.
+pub(crate) fn numbered(
+    alloc: Global,
+    front: &[u8],
+    before: &[u8],
+    count: u32,
+    after: &[u8],
+    back: &[u8],
+) -> Result<Vec<u8>, Fail> {
+    let mut text = Vec::from_slice(alloc, front)?;
+    for k in 0..count {
+        let number = format!(in alloc; "{k}")?;
+        text.extend_from_slice(before)?;
+        text.extend_from_slice(number.as_bytes())?;
+        text.extend_from_slice(after)?;
+    }
+    text.extend_from_slice(back)?;
+    Ok(text)
+}

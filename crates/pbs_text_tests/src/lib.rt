@@ -4,6 +4,8 @@
 #[cfg(test)]
 mod canonical;
 #[cfg(test)]
+mod constructs;
+#[cfg(test)]
 mod refusals;
 #[cfg(test)]
 mod texts;

@@ -1,5 +1,6 @@
 // Texts, and what reading them answers.
 use pbs_base::{Refusal, Span, Subject};
+use pbs_print::print_spec;
 use pbs_read::{ReadSpec, read_spec};
 use std::alloc::Global;
 use std::test::Fail;
@@ -39,4 +40,18 @@ fn push_times(text: &mut Vec<u8>, part: &[u8], times: usize) -> Result<(), Fail>
         text.extend_from_slice(part)?;
     }
     Ok(())
+}
+
+fn printed(alloc: Global, text: &[u8]) -> Result<Vec<u8>, Fail> {
+    let spec = read_spec(alloc, text).ok().ok_or("no specification")?;
+    let mut out = Vec::new(alloc);
+    print_spec(alloc, &spec, &mut out).ok().ok_or("memory")?;
+    Ok(out)
+}
+
+/// What is read of the text is printed as the canonical text, and so is what is read of that.
+pub(crate) fn is_canonical(alloc: Global, text: &[u8], canonical: &[u8]) -> Result<bool, Fail> {
+    let once = printed(alloc, text)?;
+    let again = printed(alloc, once.as_slice())?;
+    Ok(once.as_slice() == canonical && again.as_slice() == canonical)
 }
