@@ -1,0 +1,4 @@
+pub mod Diagrams
+pub mod Choices
+pub mod Pairs
+pub mod Members

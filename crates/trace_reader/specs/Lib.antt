@@ -1,0 +1,6 @@
+pub mod Traces
+pub mod Headers
+pub mod States
+pub mod Steps
+pub mod Calls
+pub mod Names

@@ -1,0 +1,9 @@
+pub mod Emitted
+pub mod Grammar
+pub mod Lexing
+pub mod Words
+pub mod Orders
+pub mod Standing
+pub mod Refusing
+pub mod Trees
+pub mod Reading
