@@ -7,3 +7,5 @@ pub mod Standing
 pub mod Refusing
 pub mod Trees
 pub mod Reading
+pub mod Raw
+pub mod PortNames
