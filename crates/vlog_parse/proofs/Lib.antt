@@ -1,1 +1,6 @@
 pub mod Lexes
+pub mod Walks
+pub mod Finishes
+pub mod Depths
+pub mod Phrases
+pub mod Exact

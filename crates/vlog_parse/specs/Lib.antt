@@ -1,2 +1,5 @@
 pub mod Lexing
 pub mod Parsed
+pub mod Places
+pub mod Steps
+pub mod Machine

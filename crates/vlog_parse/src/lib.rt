@@ -2,7 +2,17 @@
 #![tactic(auto)]
 
 mod fail;
+mod gates;
+mod parse;
 mod piece;
+mod stack;
+mod state;
+mod step;
+#[cfg(test)]
+mod tests;
 mod tokens;
+mod units;
+mod words;
 
 pub use fail::ParseFail;
+pub use parse::parse_netlist;
