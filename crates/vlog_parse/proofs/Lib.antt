@@ -4,3 +4,5 @@ pub mod Finishes
 pub mod Depths
 pub mod Phrases
 pub mod Exact
+pub mod Standing
+pub mod Parts
