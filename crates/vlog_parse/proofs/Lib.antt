@@ -6,3 +6,7 @@ pub mod Phrases
 pub mod Exact
 pub mod Standing
 pub mod Parts
+pub mod Inside
+pub mod Simulates
+pub mod Reaching
+pub mod Fits

@@ -18,7 +18,7 @@ use Rattle.vlog_parse.specs.declared.state.Level.{Level}
 use Rattle.vlog_parse.specs.Machine.{settled_pin, settled_gates, Held, held, made, joined_part, driven}
 use Rattle.vlog_parse.proofs.Standing.{IsLone, shown, IsHeld}
 
-settled-append : (part : Part) (a b : List RawGate) → settled_gates part (a ++ b) ≡ a ++ settled_gates part b
+pub settled-append : (part : Part) (a b : List RawGate) → settled_gates part (a ++ b) ≡ a ++ settled_gates part b
 settled-append (Pin p) a b = refl
 settled-append (Made kind pins) a b = append_assoc a b _
 

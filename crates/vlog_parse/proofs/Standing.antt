@@ -32,12 +32,9 @@ use Rattle.vlog_parse.specs.Places.{WantsNextPin, AfterPins, AfterPin, AfterMany
 use Rattle.vlog_parse.specs.Places.{AfterAssigned, WantsUnit, AfterUnit, AfterAlways, AfterAt, AfterClockOpen}
 use Rattle.vlog_parse.specs.Places.{AfterPosedge, AfterClock, AfterEdge, AfterRegister, AfterArrow, AfterTaken, Whole}
 use Rattle.vlog_parse.specs.Steps.{unit_hole, and_hole, xor_hole}
-use Rattle.vlog_parse.specs.Machine.{settled_pin, settled_gates, with_gates, with_gate, next, Next, no_parts, wants_unit}
+use Rattle.vlog_parse.specs.Machine.{settled_pin, settled_gates, with_gates, with_gate, next, Next, no_parts, wants_unit, nothing}
 
 -- ---- what was found
-
-abbrev pub nothing : Found
-nothing = record { title = None; ports = []; decls = []; gates = []; regs = [] }
 
 abbrev pub titled_found : List ℕ → NamePhrase → Found
 titled_found bytes n = record { title = Some (name_of bytes n); ports = []; decls = []; gates = []; regs = [] }

@@ -1,12 +1,13 @@
 -- The step of the machine that reads tokens, on what it has found.
 use Rattle.std.specs.Prelude.{ℕ, Bool, true, false, nat_lt, if◌then◌else◌, List, [], ◌∷◌, ◌++◌, length, Option, Some, None}
-use Rattle.std.specs.Prelude.{◌≡◌, option_map}
+use Rattle.std.specs.Prelude.{◌≡◌, ◌<◌, option_map}
 use Rattle.pbs_base.specs.declared.refusal.Span.{Span}
 use Rattle.net_core.specs.declared.gate.GateKind.{GateKind}
 use Rattle.net_core.specs.declared.gate.GateKind.TheVariants as gate
 use Rattle.vlog_text.specs.declared.raw.DeclKind.{DeclKind}
 use Rattle.vlog_text.specs.declared.raw.RawName.{RawName}
 use Rattle.vlog_text.specs.declared.raw.RawGate.{RawGate}
+use Rattle.vlog_text.specs.declared.raw.RawNetlist.{RawNetlist}
 use Rattle.vlog_text.specs.declared.raw.RawPin.{RawPin}
 use Rattle.vlog_text.specs.declared.raw.RawPin.TheVariants as pin
 use Rattle.vlog_text.specs.declared.raw.Target.TheVariants as target
@@ -321,3 +322,21 @@ IsNext None None f = Unit {0}
 IsNext None (Some s) f = ⊥
 IsNext (Some x) None f = ⊥
 IsNext (Some x) (Some s) f = (s ≡ x.0) × (f ≡ x.1)
+
+abbrev pub is_whole : State → Bool
+is_whole state.Whole = true
+is_whole _ = false
+
+-- nothing was found yet
+abbrev pub nothing : Found
+nothing = record { title = None; ports = []; decls = []; gates = []; regs = [] }
+
+-- the netlist is what was found
+pub record IsFound (f : Found) (raw : RawNetlist) : Type 0 where
+  pub title : f.title ≡ Some raw.name
+  pub ports : raw.ports ≡ f.ports
+  pub decls : raw.decls ≡ f.decls
+  pub gates : raw.gates ≡ f.gates
+  pub regs : raw.regs ≡ f.regs
+  pub gates_few : length raw.gates < 4294967295
+  pub regs_few : length raw.regs < 4294967295

@@ -4,7 +4,7 @@ use Rattle.pbs_base.specs.declared.refusal.Span.{Span}
 use Rattle.pbs_base.specs.declared.refusal.Refusal.{Refusal}
 use Rattle.vlog_text.specs.declared.raw.RawNetlist.{RawNetlist}
 use Rattle.vlog_text.specs.declared.token.Token.{Token}
-use Rattle.vlog_text.specs.Grammar.{TextPhrase}
+use Rattle.vlog_text.specs.Grammar.{TextPhrase, IsText}
 use Rattle.vlog_text.specs.Lexing.{tokens}
 use Rattle.vlog_text.specs.Raw.{IsRaw}
 use Rattle.vlog_text.specs.Reading.{IsShort, IsRead, LeavesGrammar}
@@ -37,3 +37,16 @@ Parses bytes (Err Memory) = Unit {0}
 abbrev pub StopsLexing : List ℕ → ParseFail → Type 0
 StopsLexing bytes Memory = Unit {0}
 StopsLexing bytes (Refused r) = (at : Span) × (r ≡ refusal 2 at) × (tokens bytes ≡ Err at)
+
+-- the tokens are read as a phrase, and this is the raw netlist that it stands for
+pub record IsReadAs (bytes : List ℕ) (ts : List Token) (raw : RawNetlist) : Type 0 where
+  pub phrase : TextPhrase
+  pub text : IsText ts phrase
+  pub raw_is : raw ≡ raw_of bytes phrase
+  pub gates_few : length raw.gates < 4294967295
+  pub regs_few : length raw.regs < 4294967295
+
+-- rule 3 is broken first at this span, unless memory ran out
+abbrev pub StopsReading : ℕ → List Token → ParseFail → Type 0
+StopsReading end ts Memory = Unit {0}
+StopsReading end ts (Refused r) = (at : Span) × (r ≡ refusal 3 at) × LeavesGrammar end ts at

@@ -1,4 +1,11 @@
 // Whole texts.
+ghost use Rattle.std.specs.Prelude.{ℕ, List, ◌≡◌, ◌≤◌, length, IfOk, IfErr};
+ghost use Rattle.vlog_parse.specs.declared.fail.ParseFail.TheVariants as answers;
+ghost use Rattle.vlog_text.specs.Refusing.{refusal};
+ghost use Rattle.vlog_parse.specs.Machine as machine;
+ghost use Rattle.vlog_parse.specs.Machine.{IsFound};
+ghost use Rattle.vlog_parse.specs.Parsed.{IsReadAs, StopsReading, Parses};
+
 use crate::fail::ParseFail;
 use crate::state::{Fixed, Found, State};
 use crate::step::step;
@@ -14,7 +21,9 @@ const MAX_BYTES: usize = 67_108_864;
 const MOST: usize = 4_294_967_294;
 
 // Why a text is refused by this rule.
-fn refused(rule: u8, span: Span) -> ParseFail {
+fn refused(rule: u8, span: Span) -> ParseFail
+    ensures { result ≡ answers.Refused (refusal rule span) }
+{
     ParseFail::Refused(Refusal {
         subject: Subject::Netlist,
         rule,
@@ -22,7 +31,21 @@ fn refused(rule: u8, span: Span) -> ParseFail {
     })
 }
 
-fn nothing(alloc: Global) -> Found {
+fn too_long() -> ParseFail
+    ensures { result ≡ answers.Refused (refusal 1 (record { start = 67108864; end = 67108865 })) }
+{
+    refused(
+        1,
+        Span {
+            start: 67_108_864,
+            end: 67_108_865,
+        },
+    )
+}
+
+fn nothing(alloc: Global) -> Found
+    ensures { result ≡ machine.nothing }
+{
     Found {
         title: None,
         ports: Listed::new(alloc),
@@ -32,9 +55,27 @@ fn nothing(alloc: Global) -> Found {
     }
 }
 
-// The netlist that was found.
-fn raw_of(found: Found) -> Result<RawNetlist, ParseFail> {
-    let Found { title, ports, decls, gates, regs } = found;
+fn is_whole(state: State) -> bool
+    ensures { result ≡ machine.is_whole state }
+{
+    match state {
+        State::Whole => true,
+        _ => false,
+    }
+}
+
+// The netlist that was found. A text has fewer gates and registers than `MOST`.
+fn netlist_of(found: Found) -> Result<RawNetlist, ParseFail>
+    ensures ok { IfOk result (λ raw. IsFound found raw) }
+    ensures err { IfErr result (λ e. e ≡ answers.Memory) }
+{
+    let Found {
+        title,
+        ports,
+        decls,
+        gates,
+        regs,
+    } = found;
     if gates.len() > MOST || regs.len() > MOST {
         return Err(ParseFail::Memory);
     }
@@ -50,8 +91,11 @@ fn raw_of(found: Found) -> Result<RawNetlist, ParseFail> {
     }
 }
 
-// What the tokens of a text are.
-fn read(alloc: Global, bytes: &[u8], tokens: &[Token], end: u32) -> Result<RawNetlist, ParseFail> {
+// What the tokens of a text are read as.
+fn read(alloc: Global, bytes: &[u8], tokens: &[Token], end: u32) -> Result<RawNetlist, ParseFail>
+    ensures ok { IfOk result (λ raw. IsReadAs bytes.now tokens.now raw) }
+    ensures err { IfErr result (λ e. StopsReading end tokens.now e) }
+{
     let mut found = nothing(alloc);
     let mut state = State::OfFixed(Fixed::WantsModule);
     for token in tokens {
@@ -60,22 +104,19 @@ fn read(alloc: Global, bytes: &[u8], tokens: &[Token], end: u32) -> Result<RawNe
             None => return Err(refused(3, token.span)),
         }
     }
-    match state {
-        State::Whole => raw_of(found),
-        _ => Err(refused(3, Span { start: end, end })),
+    if is_whole(state) {
+        netlist_of(found)
+    } else {
+        Err(refused(3, Span { start: end, end }))
     }
 }
 
-/// The netlist that the text of names is, or the first broken rule of 1 to 3.
-pub fn parse_netlist(alloc: Global, bytes: &[u8]) -> Result<RawNetlist, ParseFail> {
+/// The netlist of names that the text is, or the first broken rule of 1 to 3.
+pub fn parse_netlist(alloc: Global, bytes: &[u8]) -> Result<RawNetlist, ParseFail>
+    ensures { Parses bytes.now result }
+{
     if bytes.len() > MAX_BYTES {
-        return Err(refused(
-            1,
-            Span {
-                start: 67_108_864,
-                end: 67_108_865,
-            },
-        ));
+        return Err(too_long());
     }
     let tokens = tokens_of(alloc, bytes)?;
     read(alloc, bytes, &tokens, bytes.len() as u32)
