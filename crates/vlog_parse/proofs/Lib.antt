@@ -10,3 +10,5 @@ pub mod Inside
 pub mod Simulates
 pub mod Reaching
 pub mod Fits
+pub mod Fitting
+pub mod Answering

@@ -43,8 +43,7 @@ pub record IsReadAs (bytes : List ℕ) (ts : List Token) (raw : RawNetlist) : Ty
   pub phrase : TextPhrase
   pub text : IsText ts phrase
   pub raw_is : raw ≡ raw_of bytes phrase
-  pub gates_few : length raw.gates < 4294967295
-  pub regs_few : length raw.regs < 4294967295
+  pub is_raw : IsRaw raw
 
 -- rule 3 is broken first at this span, unless memory ran out
 abbrev pub StopsReading : ℕ → List Token → ParseFail → Type 0

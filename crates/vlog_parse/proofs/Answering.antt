@@ -1,0 +1,34 @@
+-- What the code answers of a text.
+use Rattle.std.proofs.Common.{◌≡◌, ℕ, List, length, Result, Ok, Err, refl, sym, ap, subst, ◌∙◌}
+use Rattle.std.specs.Prelude.{IfOk, IfErr}
+use Rattle.pbs_base.specs.declared.refusal.Refusal.{Refusal}
+use Rattle.vlog_text.specs.declared.raw.RawNetlist.{RawNetlist}
+use Rattle.vlog_text.specs.declared.token.Token.{Token}
+use Rattle.vlog_text.specs.Lexing.{tokens}
+use Rattle.vlog_text.specs.Reading.{IsShort}
+use Rattle.vlog_parse.specs.declared.fail.ParseFail.{ParseFail}
+use Rattle.vlog_parse.specs.declared.fail.ParseFail.TheVariants.{Refused, Memory}
+use Rattle.vlog_parse.specs.Parsed.{IsUnreadable, ByToken, ByGrammar, IsReadAs, StopsLexing, StopsReading, Parses}
+
+pub stopped_lexing : (bytes : List ℕ) (e : ParseFail) → IsShort bytes → StopsLexing bytes e → Parses bytes (Err e)
+stopped_lexing bytes Memory short h = tt
+stopped_lexing bytes (Refused r) short h = subst (IsUnreadable bytes) (sym h.1) (ByToken short h.0 h.2)
+
+found_all : (bytes : List ℕ) (ts : List Token) (r : Result RawNetlist ParseFail) → IsShort bytes → tokens bytes ≡ Ok ts
+    → IfOk r (λ raw. IsReadAs bytes ts raw) → IfErr r (λ e. StopsReading (length bytes) ts e) → Parses bytes r
+found_all bytes ts (Ok raw) short lexed h k = record {
+  phrase = h.phrase;
+  is_read = record { short = short; found = ts; found_is = lexed; text = h.text };
+  raw_is = h.raw_is;
+  is_raw = h.is_raw;
+}
+found_all bytes ts (Err Memory) short lexed h k = tt
+found_all bytes ts (Err (Refused r)) short lexed h k =
+    subst (IsUnreadable bytes) (sym k.1) (ByGrammar short ts lexed k.0 k.2)
+
+pub answered : (bytes : List ℕ) (ts us : List Token) (end : ℕ) (r : Result RawNetlist ParseFail) → IsShort bytes
+    → tokens bytes ≡ Ok ts → us ≡ ts → end ≡ length bytes → IfOk r (λ raw. IsReadAs bytes us raw)
+    → IfErr r (λ e. StopsReading end us e) → Parses bytes r
+answered bytes ts us end r short lexed same e h k =
+    found_all bytes us r short (lexed ∙ ap Ok (sym same)) h
+    (subst (λ n. IfErr r (λ x. StopsReading n us x)) e k)
