@@ -1,7 +1,6 @@
 -- What the code answers of a text.
-use Rattle.std.proofs.Common.{◌≡◌, ℕ, List, length, Result, Ok, Err, refl, sym, ap, subst, ◌∙◌}
+use Rattle.std.proofs.Common.{◌≡◌, ℕ, List, length, Result, Ok, Err, sym, ap, subst, ◌∙◌}
 use Rattle.std.specs.Prelude.{IfOk, IfErr}
-use Rattle.pbs_base.specs.declared.refusal.Refusal.{Refusal}
 use Rattle.vlog_text.specs.declared.raw.RawNetlist.{RawNetlist}
 use Rattle.vlog_text.specs.declared.token.Token.{Token}
 use Rattle.vlog_text.specs.Lexing.{tokens}

@@ -1,13 +1,14 @@
 -- No place that is reached stands in a text that nests deeper than 64.
-use Rattle.std.proofs.Common.{◌≡◌, ℕ, zero, suc, ◌+◌, ◌≤◌, ◌<◌, max, List, [], ◌∷◌, Option, Some, None, Bool, true, false}
-use Rattle.std.proofs.Common.{refl, sym, subst, ltb, inl, inr, ◌⊎◌, arith}
+use Rattle.std.proofs.Common.{◌≡◌, ℕ, ◌+◌, ◌≤◌, ◌<◌, max, List, [], ◌∷◌, Option, Some, None, Bool, true}
+use Rattle.std.proofs.Common.{false}
+use Rattle.std.proofs.Common.{refl, subst, ltb, inl, inr, ◌⊎◌, arith}
 use Rattle.std.proofs.lemmas.Bool.Decides.{nat_tests}
-use Rattle.std.specs.Prelude.{IfSome, IsTrue, not, option_map, option_and_then, if◌then◌else◌, ⊤}
+use Rattle.std.specs.Prelude.{IfSome, IsTrue, not, option_map, if◌then◌else◌, ⊤}
 use Rattle.pbs_base.specs.declared.refusal.Span.{Span}
 use Rattle.net_core.specs.declared.gate.GateKind.{GateKind}
 use Rattle.vlog_text.specs.declared.token.Token.{Token}
 use Rattle.vlog_text.specs.declared.token.TokenKind.{TokenKind}
-use Rattle.vlog_text.specs.declared.token.TokenKind.TheVariants.{Name, Clock, Bit, DeclWord, GateWord, ModuleWord}
+use Rattle.vlog_text.specs.declared.token.TokenKind.TheVariants.{Clock, DeclWord, GateWord, ModuleWord}
 use Rattle.vlog_text.specs.declared.token.TokenKind.TheVariants.{EndmoduleWord, AssignWord, AlwaysWord, PosedgeWord}
 use Rattle.vlog_text.specs.declared.token.TokenKind.TheVariants.{OpenRound, CloseRound, Comma, Semicolon, Equals, Tilde}
 use Rattle.vlog_text.specs.declared.token.TokenKind.TheVariants.{Ampersand, Caret, Bar, At, Arrow}
@@ -15,17 +16,17 @@ use Rattle.vlog_text.specs.Grammar.{UnitPhrase, Negated, Bracketed, Lone, AndPhr
 use Rattle.vlog_text.specs.Grammar.{and_depth, xor_depth, or_depth, items_depth, is_single, NamePhrase, OperandPhrase}
 use Rattle.vlog_parse.specs.Places.{Head, OrHole, OfAssign, InRound, XorHole, FirstXor, NextXor, AndHole, FirstAnd}
 use Rattle.vlog_parse.specs.Places.{NextAnd, UnitHole, FirstUnit, NextUnit, UnderNot, PortHole, FirstPort, NextPort}
-use Rattle.vlog_parse.specs.Places.{DeclHole, FirstDecl, NextDecl, GateFront, PinFront, Place, Start, AfterModule}
+use Rattle.vlog_parse.specs.Places.{DeclHole, FirstDecl, NextDecl, PinFront, Place, Start, AfterModule}
 use Rattle.vlog_parse.specs.Places.{AfterTitle, WantsPort, AfterPort, AfterPorts, InItems, WantsName, AfterName}
 use Rattle.vlog_parse.specs.Places.{AfterGateWord, AfterInstance, WantsTarget, AfterTarget, WantsPin, WantsNextPin}
 use Rattle.vlog_parse.specs.Places.{AfterPins, AfterPin, AfterManyGate, AfterSingleGate, AfterAssign, AfterAssigned}
 use Rattle.vlog_parse.specs.Places.{WantsUnit, AfterUnit, AfterAlways, AfterAt, AfterClockOpen, AfterPosedge}
 use Rattle.vlog_parse.specs.Places.{AfterClock, AfterEdge, AfterRegister, AfterArrow, AfterTaken, Whole, or_nesting}
 use Rattle.vlog_parse.specs.Places.{xor_nesting, and_nesting, unit_nesting}
-use Rattle.vlog_parse.specs.Steps.{name_at, operand_at, single_or_many, with_port, with_name, unit_hole, unit_and}
+use Rattle.vlog_parse.specs.Steps.{name_at, operand_at, single_or_many, with_port, with_name}
 use Rattle.vlog_parse.specs.Steps.{with_unit, and_hole, with_and, xor_hole, with_xor, start_item, with_arity}
 use Rattle.vlog_parse.specs.Steps.{start_unit, close_round, end_assign, end_unit, step, walk}
-use Rattle.vlog_parse.proofs.Walks.{at_some, any}
+use Rattle.vlog_parse.proofs.Walks.{at_some}
 
 abbrev HeadShallow : Head → Type 0
 HeadShallow f = items_depth f.items ≤ 64

@@ -1,18 +1,18 @@
 -- A walk over the tokens finds exactly what the grammar says of them.
-use Rattle.std.proofs.Common.{◌≡◌, ℕ, ◌≤◌, ◌<◌, List, [], ◌∷◌, ◌++◌, length, Option, Some, None, Result, Ok, Err, refl, sym}
+use Rattle.std.proofs.Common.{◌≡◌, ℕ, ◌≤◌, ◌<◌, List, [], ◌∷◌, ◌++◌, length, Some, None, Ok, Err, refl}
+use Rattle.std.proofs.Common.{sym}
 use Rattle.std.proofs.Common.{ap, subst, ◌∙◌, append_assoc, append-nil, arith}
 use Rattle.std.specs.Prelude.{option_and_then, ⊤}
 use Rattle.pbs_base.specs.declared.refusal.Refusal.{Refusal}
 use Rattle.pbs_base.specs.declared.refusal.Span.{Span}
 use Rattle.vlog_text.specs.declared.token.Token.{Token}
-use Rattle.vlog_text.specs.Grammar.{TextPhrase, IsText, Begins, items_depth, text_tokens}
-use Rattle.vlog_text.specs.Lexing.{tokens}
-use Rattle.vlog_text.specs.Reading.{IsShort, IsRead, LeavesGrammar, AtToken, AtEnd}
+use Rattle.vlog_text.specs.Grammar.{TextPhrase, IsText, Begins}
+use Rattle.vlog_text.specs.Reading.{IsRead, LeavesGrammar, AtToken, AtEnd}
 use Rattle.vlog_text.specs.Refusing.{refusal}
 use Rattle.vlog_parse.specs.Parsed.{IsUnreadable, ByLength, ByToken, ByGrammar}
 use Rattle.vlog_parse.specs.Places.{Place, Start, Whole}
 use Rattle.vlog_parse.specs.Steps.{step, walk}
-use Rattle.vlog_parse.proofs.Walks.{at_some, any, walk-before, walk-append, walk-then}
+use Rattle.vlog_parse.proofs.Walks.{at_some, any, walk-before, walk-append}
 use Rattle.vlog_parse.proofs.Finishes.{finish}
 use Rattle.vlog_parse.proofs.Depths.{shallow_walk}
 use Rattle.vlog_parse.proofs.Phrases.{walk-text}
@@ -25,7 +25,8 @@ walk-join (t ∷ ts) b p q r e f =
 
 -- what is walked over to the end is a text
 pub walked_text : (ts : List Token) (w : TextPhrase) → walk Start ts ≡ Some (Whole w) → IsText ts w
-walked_text ts w e = record { tokens = walk-before ts Start (Whole w) e; shallow = shallow_walk ts Start (Whole w) tt e }
+walked_text ts w e =
+    record { tokens = walk-before ts Start (Whole w) e; shallow = shallow_walk ts Start (Whole w) tt e }
 
 pub text_walked : (ts : List Token) (w : TextPhrase) → IsText ts w → walk Start ts ≡ Some (Whole w)
 text_walked ts w text = ap (walk Start) (sym text.tokens) ∙ walk-text w text.shallow
@@ -120,7 +121,8 @@ one_token : (taken rest taken' rest' : List Token) (t t' : Token) → Splits tak
     → Begins taken → ¬ Begins (taken ++ t ∷ []) → Begins taken' → ¬ Begins (taken' ++ t' ∷ []) → t ≡ t'
 one_token taken rest taken' rest' t t' (Same q) b stops b' stops' = q
 one_token taken rest taken' rest' t t' (Later c p) b stops b' stops' = absurd (none_stands taken' taken c t p b' stops)
-one_token taken rest taken' rest' t t' (Sooner c p) b stops b' stops' = absurd (none_stands taken taken' c t' p b stops')
+one_token taken rest taken' rest' t t' (Sooner c p) b stops b' stops' =
+    absurd (none_stands taken taken' c t' p b stops')
 
 one_place : (end : ℕ) (ts : List Token) (x y : Span) → LeavesGrammar end ts x → LeavesGrammar end ts y → x ≡ y
 one_place end ts x y (AtToken taken rest t e b stops) (AtToken taken' rest' t' e' b' stops') =
@@ -138,7 +140,8 @@ text_begins ts w text = record {
 }
 
 read_stays : (end : ℕ) (ts : List Token) (w : TextPhrase) (x : Span) → IsText ts w → LeavesGrammar end ts x → ⊥
-read_stays end ts w x text (AtToken taken rest t e b stops) = none_stands ts taken rest t e (text_begins ts w text) stops
+read_stays end ts w x text (AtToken taken rest t e b stops) =
+    none_stands ts taken rest t e (text_begins ts w text) stops
 read_stays end ts w x text (AtEnd b none) = none w text
 
 too_long : (n : ℕ) → n ≤ 67108864 → 67108864 < n → ⊥

@@ -1,20 +1,20 @@
 -- Every place can be completed to a whole text, by a completion that is written out.
-use Rattle.std.proofs.Common.{◌≡◌, List, [], ◌∷◌, Some, refl, ap, ◌∙◌, false, inl, inr, ◌⊎◌}
+use Rattle.std.proofs.Common.{◌≡◌, List, [], ◌∷◌, Some, refl, ap, ◌∙◌, inl, inr, ◌⊎◌}
 use Rattle.std.specs.Prelude.{option_and_then, IsTrue, not}
 use Rattle.pbs_base.specs.declared.refusal.Span.{Span}
-use Rattle.net_core.specs.declared.gate.GateKind.{GateKind}
 use Rattle.vlog_text.specs.declared.token.Token.{Token}
 use Rattle.vlog_text.specs.declared.token.TokenKind.{TokenKind}
-use Rattle.vlog_text.specs.declared.token.TokenKind.TheVariants.{Name, Clock, Bit, ModuleWord, EndmoduleWord}
+use Rattle.vlog_text.specs.declared.token.TokenKind.TheVariants.{Name, Clock, ModuleWord, EndmoduleWord}
 use Rattle.vlog_text.specs.declared.token.TokenKind.TheVariants.{PosedgeWord, OpenRound, CloseRound, Comma, Semicolon}
 use Rattle.vlog_text.specs.declared.token.TokenKind.TheVariants.{Equals, At, Arrow}
-use Rattle.vlog_text.specs.Grammar.{token, UnitPhrase, Negated, Bracketed, Lone, Constant, AndPhrase, is_single}
+use Rattle.vlog_text.specs.Grammar.{token, UnitPhrase, Negated, Bracketed, AndPhrase, is_single}
 use Rattle.vlog_text.specs.Grammar.{OperandPhrase, NamePhrase, TextPhrase}
 use Rattle.vlog_parse.specs.Places.{Head, OfAssign, InRound, FirstXor, NextXor, AndHole, FirstAnd, NextAnd, UnitHole}
 use Rattle.vlog_parse.specs.Places.{FirstUnit, NextUnit, UnderNot, PortHole, FirstPort, NextPort, DeclHole, FirstDecl}
 use Rattle.vlog_parse.specs.Places.{NextDecl, GateFront, PinFront, Edge, Place, Start, AfterModule, AfterTitle}
 use Rattle.vlog_parse.specs.Places.{WantsPort, AfterPort, AfterPorts, InItems, WantsName, AfterName, AfterGateWord}
-use Rattle.vlog_parse.specs.Places.{AfterInstance, WantsTarget, AfterTarget, WantsPin, WantsNextPin, AfterPins, AfterPin}
+use Rattle.vlog_parse.specs.Places.{AfterInstance, WantsTarget, AfterTarget, WantsPin, WantsNextPin, AfterPins}
+use Rattle.vlog_parse.specs.Places.{AfterPin}
 use Rattle.vlog_parse.specs.Places.{AfterManyGate, AfterSingleGate, AfterAssign, AfterAssigned, WantsUnit, AfterUnit}
 use Rattle.vlog_parse.specs.Places.{AfterAlways, AfterAt, AfterClockOpen, AfterPosedge, AfterClock, AfterEdge}
 use Rattle.vlog_parse.specs.Places.{AfterRegister, AfterArrow, AfterTaken, Whole}
@@ -64,7 +64,8 @@ finish_names : (h : DeclHole) (n : NamePhrase) → Finishes (with_name h n)
 finish_names (FirstDecl f k at) n = onward _ _ Semicolon refl (finish_items _)
 finish_names (NextDecl f k at ns c) n = onward _ _ Semicolon refl (finish_items _)
 
-finish_arity : (g : PinFront) (p : OperandPhrase) (e : IsTrue (is_single g.gate.kind) ⊎ IsTrue (not (is_single g.gate.kind)))
+finish_arity : (g : PinFront) (p : OperandPhrase)
+    (e : IsTrue (is_single g.gate.kind) ⊎ IsTrue (not (is_single g.gate.kind)))
     → Finishes (with_arity g p e)
 finish_arity g p (inl single) = onward _ _ CloseRound refl (onward _ _ Semicolon refl (finish_items _))
 finish_arity g p (inr many) = onward _ _ CloseRound refl (onward _ _ Semicolon refl (finish_items _))

@@ -1,11 +1,11 @@
 -- What the machine has found is the raw netlist of a text, as far as it goes.
-use Rattle.std.proofs.Common.{◌≡◌, ℕ, zero, suc, ◌+◌, ◌<◌, ◌≤◌, List, [], ◌∷◌, ◌++◌, length, Bool, true, false, Option, Some}
-use Rattle.std.proofs.Common.{None, refl, sym, ap, subst, ◌∙◌, ltb, length-append, arith}
+use Rattle.std.proofs.Common.{◌≡◌, ℕ, zero, suc, ◌<◌, ◌≤◌, List, [], ◌∷◌, ◌++◌, length, Bool, true, false}
+use Rattle.std.proofs.Common.{Some}
+use Rattle.std.proofs.Common.{refl, sym, ap, subst, ◌∙◌, ltb, length-append, arith}
 use Rattle.std.proofs.lemmas.Bool.{false≢true}
 use Rattle.std.proofs.lemmas.Bool.Decides.{nat_tests}
 use Rattle.std.proofs.lemmas.Option.{slice_get_within}
-use Rattle.std.specs.Prelude.{IfSome, IsTrue, not, option_map, slice_get, if◌then◌else◌, ⊤}
-use Rattle.pbs_base.specs.declared.refusal.Span.{Span}
+use Rattle.std.specs.Prelude.{IsTrue, not, slice_get, ⊤}
 use Rattle.net_core.specs.declared.gate.GateKind.{GateKind}
 use Rattle.net_core.specs.declared.gate.GateKind.TheVariants as gate
 use Rattle.net_core.specs.Circuits.{HasItsPins}
@@ -13,7 +13,6 @@ use Rattle.vlog_text.specs.declared.raw.RawGate.{RawGate}
 use Rattle.vlog_text.specs.declared.raw.RawName.{RawName}
 use Rattle.vlog_text.specs.declared.raw.RawPin.{RawPin}
 use Rattle.vlog_text.specs.declared.raw.RawPin.TheVariants as pin
-use Rattle.vlog_text.specs.declared.raw.RawReg.{RawReg}
 use Rattle.vlog_text.specs.declared.raw.Target.TheVariants as target
 use Rattle.vlog_text.specs.Grammar.{OperandPhrase, Named, Constant, is_single}
 use Rattle.vlog_text.specs.Raw.{IsInner, PinFits, IsOperand, GateFits}
@@ -23,7 +22,7 @@ use Rattle.vlog_parse.specs.declared.state.Frame.{Frame}
 use Rattle.vlog_parse.specs.declared.state.Frame.TheVariants.{Negation, Bracket}
 use Rattle.vlog_parse.specs.declared.state.Part.{Part}
 use Rattle.vlog_parse.specs.declared.state.Part.TheVariants.{Pin, Made}
-use Rattle.vlog_parse.specs.Machine.{settled_pin, settled_gates, Held, held, made, joined_part, unwound, unwound_frames}
+use Rattle.vlog_parse.specs.Machine.{settled_pin, settled_gates, Held, made, joined_part, unwound, unwound_frames}
 use Rattle.vlog_parse.specs.Machine.{driven, with_part, and_held, xor_held, or_held}
 
 -- ---- lists
@@ -152,7 +151,8 @@ put_fit old before x f b =
     append_fit (settled_gates x.part x.gates) before _ (pins_wider x.gates _ before s.wider b) s.read
 
 made_fit : (old : List RawGate) (kind : GateKind) (before : List RawPin) (x : Held) → HeldFit old x
-    → PinsFit x.gates before → ((p : RawPin) → HasItsPins kind (length (before ++ p ∷ []))) → HeldFit old (made kind before x)
+    → PinsFit x.gates before → ((p : RawPin) → HasItsPins kind (length (before ++ p ∷ [])))
+    → HeldFit old (made kind before x)
 made_fit old kind before x f b count =
     let s = settle_fit x.gates x.part f.all f.part in
     record { all = s.all; part = (count _, put_fit old before x f b); wider = λ p k. s.wider p (f.wider p k) }
@@ -199,7 +199,8 @@ or_fit old l x f k =
 
 pub unwound_fit : (old : List RawGate) (frames : List Frame) (x : Held) → HeldFit old x → HeldFit old (unwound frames x)
 unwound_fit old [] x f = f
-unwound_fit old (Negation ∷ frames) x f = unwound_fit old frames (made gate.Not [] x) (made_fit old gate.Not [] x f tt (λ p. refl))
+unwound_fit old (Negation ∷ frames) x f =
+    unwound_fit old frames (made gate.Not [] x) (made_fit old gate.Not [] x f tt (λ p. refl))
 unwound_fit old (Bracket l ∷ frames) x f = f
 
 pub left_fit : (gates : List RawGate) (frames : List Frame) → FramesFit gates frames

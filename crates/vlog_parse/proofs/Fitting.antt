@@ -1,8 +1,9 @@
 -- Each step of the machine keeps what holds of raw netlists.
-use Rattle.std.proofs.Common.{◌≡◌, ℕ, suc, ◌+◌, ◌<◌, List, [], ◌∷◌, ◌++◌, length, Bool, true, false, Option, Some, None, refl}
-use Rattle.std.proofs.Common.{sym, ap, subst, ◌∙◌, ltb, length-append, arith}
+use Rattle.std.proofs.Common.{◌≡◌, ℕ, ◌<◌, List, [], ◌∷◌, ◌++◌, length, Bool, true, false, Option, Some, None}
+use Rattle.std.proofs.Common.{refl}
+use Rattle.std.proofs.Common.{sym, subst, ltb, length-append, arith}
 use Rattle.std.proofs.lemmas.Bool.{false≢true}
-use Rattle.std.specs.Prelude.{IfSome, IsTrue, not, option_map, slice_get, if◌then◌else◌, ⊤}
+use Rattle.std.specs.Prelude.{IfSome, IsTrue, not, option_map, slice_get, if◌then◌else◌}
 use Rattle.pbs_base.specs.declared.refusal.Span.{Span}
 use Rattle.net_core.specs.declared.gate.GateKind.{GateKind}
 use Rattle.net_core.specs.Circuits.{HasItsPins}
@@ -13,7 +14,7 @@ use Rattle.vlog_text.specs.declared.raw.RawPin.{RawPin}
 use Rattle.vlog_text.specs.declared.raw.RawReg.{RawReg}
 use Rattle.vlog_text.specs.declared.raw.Target.TheVariants as target
 use Rattle.vlog_text.specs.declared.token.TokenKind.{TokenKind}
-use Rattle.vlog_text.specs.declared.token.TokenKind.TheVariants.{Name, Clock, Bit, DeclWord, GateWord, ModuleWord}
+use Rattle.vlog_text.specs.declared.token.TokenKind.TheVariants.{Name, Clock, DeclWord, GateWord, ModuleWord}
 use Rattle.vlog_text.specs.declared.token.TokenKind.TheVariants.{EndmoduleWord, AssignWord, AlwaysWord, PosedgeWord}
 use Rattle.vlog_text.specs.declared.token.TokenKind.TheVariants.{OpenRound, CloseRound, Comma, Semicolon, Equals, Tilde}
 use Rattle.vlog_text.specs.declared.token.TokenKind.TheVariants.{Ampersand, Caret, Bar, At, Arrow}
@@ -34,12 +35,15 @@ use Rattle.vlog_parse.specs.declared.state.RegState.TheVariants as of_reg
 use Rattle.vlog_parse.specs.declared.state.State.{State}
 use Rattle.vlog_parse.specs.declared.state.State.TheVariants as state
 use Rattle.vlog_parse.specs.Steps.{name_at, operand_at}
-use Rattle.vlog_parse.specs.Machine.{settled_gates, Held, held, Next, next, keeping, fixed_next, item_next, port_next}
-use Rattle.vlog_parse.specs.Machine.{name_next, word_next, first_pin, after_unit, closed_in, ended_in, lone_pin, or_held}
+use Rattle.vlog_parse.specs.Machine.{Held, held, next, keeping, fixed_next, item_next, port_next}
+use Rattle.vlog_parse.specs.Machine.{first_pin, after_unit, closed_in, ended_in, lone_pin}
+use Rattle.vlog_parse.specs.Machine.{or_held}
 use Rattle.vlog_parse.specs.Machine.{and_held, xor_held, unwound, unit_next, part_next, IsFound, nothing, is_whole}
 use Rattle.vlog_parse.proofs.Fits.{each_of, AllFit, Driven, PinsFit, PartFit, LevelFit, FramesFit, HeldFit, settle_fit}
-use Rattle.vlog_parse.proofs.Fits.{put_fit, pins_wider, level_wider, frames_wider, and_fit, xor_fit, or_fit, unwound_fit}
-use Rattle.vlog_parse.proofs.Fits.{left_fit, last_more, fit_more, driven_fit, operand_is, operand_fit, many_pins, one_pin}
+use Rattle.vlog_parse.proofs.Fits.{put_fit, pins_wider, level_wider, frames_wider, and_fit, xor_fit, or_fit}
+use Rattle.vlog_parse.proofs.Fits.{unwound_fit}
+use Rattle.vlog_parse.proofs.Fits.{left_fit, last_more, fit_more, driven_fit, operand_is, operand_fit, many_pins}
+use Rattle.vlog_parse.proofs.Fits.{one_pin}
 use Rattle.vlog_parse.proofs.Fits.{append_fit}
 
 abbrev RegsFit : List RawReg → Type 0
@@ -106,7 +110,8 @@ fit-gate : (f : Found) (kind : GateKind) (name : RawName) (pins : List RawPin) �
     → HasItsPins kind (length pins) → Plain pins
     → Fitting (record f { gates = f.gates ++ gate_of kind (target.Name name) pins ∷ [] }) (state.OfFixed fixed.WantsEnd)
 fit-gate f kind name pins r d count plain =
-    (r, (fit_more f.gates (gate_of kind (target.Name name) pins) d.0 count (plain f.gates), last_more f.gates _ (λ i. i)))
+    let g : RawGate = gate_of kind (target.Name name) pins in
+    (r, (fit_more f.gates g d.0 count (plain f.gates), last_more f.gates g (λ i. i)))
 
 plain_one : (bytes : List ℕ) (p : OperandPhrase) → Plain (operand_of bytes p ∷ [])
 plain_one bytes p gates = (operand_fit bytes gates p, tt)
@@ -134,9 +139,17 @@ fit-unit : (f : Found) (x : Assigned) (frames : List Frame) (h : Held) (old : Li
     → HeldFit old h → LevelFit old x.level → FramesFit old frames → IfSome (after_unit x frames h f) Fit
 fit-unit f x frames h old r k level frame =
     let u = unwound_fit old frames h k in
-    let gates : List RawGate = (unwound frames h).gates in
-    (r, ((u.all, level_wider old gates x.level u.wider level,
-    left_fit gates frames (frames_wider old gates frames u.wider frame)), u.part))
+    let gates : List RawGate = (unwound frames h).gates in (
+      r,
+      (
+        (
+          u.all,
+          level_wider old gates x.level u.wider level,
+          left_fit gates frames (frames_wider old gates frames u.wider frame),
+        ),
+        u.part,
+      ),
+    )
 
 fit-lone : (bytes : List ℕ) (f : Found) (x : Assigned) (o : Option OperandPhrase) → RegsFit f.regs
     → AssignedFit f.gates x → IfSome (lone_pin bytes x f o) Fit
@@ -174,22 +187,44 @@ fit-behind : (f : Found) (x : Assigned) (part : Part) (k : TokenKind) → RegsFi
     → PartFit f.gates part → IfSome (part_next x part f k) Fit
 fit-behind f x part Ampersand r a p =
     let h = held_first f.gates part a.0 p in
-    let s = settle_fit f.gates part a.0 p in
-    (r, (s.all, (pins_wider f.gates _ x.level.ors s.wider a.1.0, pins_wider f.gates _ x.level.xors s.wider a.1.1,
-    put_fit f.gates x.level.ands (held part f.gates) h a.1.2), frames_wider f.gates _ x.frames s.wider a.2))
+    let s = settle_fit f.gates part a.0 p in (
+      r,
+      (
+        s.all,
+        (
+          pins_wider f.gates _ x.level.ors s.wider a.1.0,
+          pins_wider f.gates _ x.level.xors s.wider a.1.1,
+          put_fit f.gates x.level.ands (held part f.gates) h a.1.2,
+        ),
+        frames_wider f.gates _ x.frames s.wider a.2,
+      ),
+    )
 fit-behind f x part Caret r a p =
     let h = and_fit f.gates x.level (held part f.gates) (held_first f.gates part a.0 p) a.1 in
     let y : Held = and_held x.level (held part f.gates) in
-    let s = settle_fit y.gates y.part h.all h.part in
-    (r, (s.all, (pins_wider y.gates _ x.level.ors s.wider (pins_wider f.gates y.gates x.level.ors h.wider a.1.0),
-    put_fit f.gates x.level.xors y h (pins_wider f.gates y.gates x.level.xors h.wider a.1.1), tt),
-    frames_wider y.gates _ x.frames s.wider (frames_wider f.gates y.gates x.frames h.wider a.2)))
+    let s = settle_fit y.gates y.part h.all h.part in (
+      r,
+      (
+        s.all,
+        (
+          pins_wider y.gates _ x.level.ors s.wider (pins_wider f.gates y.gates x.level.ors h.wider a.1.0),
+          put_fit f.gates x.level.xors y h (pins_wider f.gates y.gates x.level.xors h.wider a.1.1),
+          tt,
+        ),
+        frames_wider y.gates _ x.frames s.wider (frames_wider f.gates y.gates x.frames h.wider a.2),
+      ),
+    )
 fit-behind f x part Bar r a p =
     let h = xor_fit f.gates x.level (held part f.gates) (held_first f.gates part a.0 p) a.1 in
     let y : Held = xor_held x.level (held part f.gates) in
-    let s = settle_fit y.gates y.part h.all h.part in
-    (r, (s.all, (put_fit f.gates x.level.ors y h (pins_wider f.gates y.gates x.level.ors h.wider a.1.0), tt, tt),
-    frames_wider y.gates _ x.frames s.wider (frames_wider f.gates y.gates x.frames h.wider a.2)))
+    let s = settle_fit y.gates y.part h.all h.part in (
+      r,
+      (
+        s.all,
+        (put_fit f.gates x.level.ors y h (pins_wider f.gates y.gates x.level.ors h.wider a.1.0), tt, tt),
+        frames_wider y.gates _ x.frames s.wider (frames_wider f.gates y.gates x.frames h.wider a.2),
+      ),
+    )
 fit-behind f x part CloseRound r a p =
     fit-close f x.frames x (or_held x.level (held part f.gates)) f.gates r
     (or_fit f.gates x.level (held part f.gates) (held_first f.gates part a.0 p) a.1) a.2
@@ -229,8 +264,15 @@ fit_next bytes (state.OfGate (of_gate.AfterTarget kind name)) f _ at h = tt
 fit_next bytes (state.OfGate (of_gate.WantsPin kind name)) f k at h =
     optional (operand_at k at) _ (λ p. fit-first bytes f kind name p h.0 h.1)
 fit_next bytes (state.OfGate (of_gate.WantsNextPin kind name pins)) f k at h =
-    optional (operand_at k at) _ (λ p. (h.0, (h.1.0, h.1.1, more_pins pins (operand_of bytes p),
-    λ gates. append_fit gates pins _ (h.1.2 gates) (operand_fit bytes gates p))))
+    optional (operand_at k at) _ (λ p. (
+      h.0,
+      (
+        h.1.0,
+        h.1.1,
+        more_pins pins (operand_of bytes p),
+        λ gates. append_fit gates pins _ (h.1.2 gates) (operand_fit bytes gates p),
+      ),
+    ))
 fit_next bytes (state.OfGate (of_gate.AfterPins kind name pins)) f Comma at h = (h.0, (h.1.0, h.1.1, h.1.3))
 fit_next bytes (state.OfGate (of_gate.AfterPins kind name pins)) f CloseRound at h =
     fit-gate f kind name pins h.0 h.1.0 (many_pins kind (length pins) h.1.1 h.1.2) h.1.3

@@ -1,5 +1,6 @@
 -- The machine follows the grammar inside an assign.
-use Rattle.std.proofs.Common.{◌≡◌, ℕ, suc, List, [], ◌∷◌, ◌++◌, length, Bool, true, false, Option, Some, None, refl, sym, ap}
+use Rattle.std.proofs.Common.{◌≡◌, ℕ, suc, List, [], ◌∷◌, ◌++◌, length, Bool, true, false, Option, Some, None, refl}
+use Rattle.std.proofs.Common.{sym, ap}
 use Rattle.std.proofs.Common.{subst, ◌∙◌, append-nil, ltb, length-append}
 use Rattle.std.specs.Prelude.{if◌then◌else◌, option_map}
 use Rattle.pbs_base.specs.declared.refusal.Span.{Span}
@@ -10,8 +11,8 @@ use Rattle.vlog_text.specs.declared.token.TokenKind.{TokenKind}
 use Rattle.vlog_text.specs.declared.token.TokenKind.TheVariants.{OpenRound, CloseRound, Semicolon, Tilde, Ampersand}
 use Rattle.vlog_text.specs.declared.token.TokenKind.TheVariants.{Caret, Bar}
 use Rattle.vlog_text.specs.Grammar.{UnitPhrase, Negated, Bracketed, Lone, AndPhrase, XorPhrase, OrPhrase, OperandPhrase}
-use Rattle.vlog_text.specs.Grammar.{NamePhrase, Assign}
-use Rattle.vlog_text.specs.Trees.{Parts, name_of, operand_of, joined, unit_part, and_parts, xor_parts, or_parts, found_in}
+use Rattle.vlog_text.specs.Grammar.{Assign}
+use Rattle.vlog_text.specs.Trees.{Parts, name_of, operand_of, joined, unit_part, and_parts, xor_parts, or_parts}
 use Rattle.vlog_parse.specs.declared.state.Found.{Found}
 use Rattle.vlog_parse.specs.declared.state.Level.{Level}
 use Rattle.vlog_parse.specs.declared.state.Frame.{Frame}
@@ -20,14 +21,14 @@ use Rattle.vlog_parse.specs.declared.state.Part.TheVariants.{Pin}
 use Rattle.vlog_parse.specs.declared.state.AssignState.TheVariants as of_assign
 use Rattle.vlog_parse.specs.declared.state.State.{State}
 use Rattle.vlog_parse.specs.declared.state.State.TheVariants as state
-use Rattle.vlog_parse.specs.Places.{Head, OrHole, OfAssign, InRound, XorHole, FirstXor, NextXor, AndHole, FirstAnd}
-use Rattle.vlog_parse.specs.Places.{NextAnd, UnitHole, FirstUnit, NextUnit, UnderNot, Place, InItems, WantsUnit, AfterUnit}
+use Rattle.vlog_parse.specs.Places.{OrHole, OfAssign, InRound, XorHole, FirstXor, NextXor, AndHole, FirstAnd}
+use Rattle.vlog_parse.specs.Places.{NextAnd, UnitHole, FirstUnit, NextUnit, UnderNot, InItems, WantsUnit}
 use Rattle.vlog_parse.specs.Places.{unit_nesting}
 use Rattle.vlog_parse.specs.Steps.{operand_at, with_unit, unit_hole, unit_and, and_hole, with_and, xor_hole, with_xor}
 use Rattle.vlog_parse.specs.Steps.{with_item, deeper, start_unit, close_round, end_assign, end_unit}
 use Rattle.vlog_parse.specs.Machine.{settled_pin, settled_gates, Held, held, made, joined_part, with_part, unwound}
-use Rattle.vlog_parse.specs.Machine.{unwound_frames, after_unit, with_gates, lone_pin, lone_next, unit_next, keeping}
-use Rattle.vlog_parse.specs.Machine.{closed_in, ended_in, part_next, driven, wants_unit, no_parts}
+use Rattle.vlog_parse.specs.Machine.{unwound_frames, after_unit, with_gates, lone_pin, unit_next, keeping}
+use Rattle.vlog_parse.specs.Machine.{closed_in, ended_in, part_next}
 use Rattle.vlog_parse.proofs.Standing.{Aim, or_aim, xor_aim, and_aim, unit_aim, or_gates, xor_gates, and_gates}
 use Rattle.vlog_parse.proofs.Standing.{unit_gates, xor_ors, and_xors, unit_ands, and_level, unit_level, or_frames}
 use Rattle.vlog_parse.proofs.Standing.{xor_frames, and_frames, unit_frames, found_at, aim_found, aimed, IsHeld, AndHeld}
@@ -133,8 +134,9 @@ sim-unit : (bytes : List ℕ) (h : UnitHole) (u : UnitPhrase) (part : Part) (gat
 sim-unit bytes h u part gates front frames k =
     let x = unwinds bytes h u part gates k in
     let At : Aim → List Frame → Held → Type 0 = λ aim fs r. StandsAt bytes (aim_found bytes aim r.gates)
-        (state.OfAssign (of_assign.AfterUnit (aimed bytes aim (unit_level bytes h) fs) r.part)) (with_unit h u) in
-    let there : At (or_aim (xor_hole (and_hole (unit_hole h)))) (or_frames bytes (xor_hole (and_hole (unit_hole h)))) x.to
+    (state.OfAssign (of_assign.AfterUnit (aimed bytes aim (unit_level bytes h) fs) r.part)) (with_unit h u) in
+    let there : At (or_aim (xor_hole (and_hole (unit_hole h))))
+    (or_frames bytes (xor_hole (and_hole (unit_hole h)))) x.to
     = BehindUnit (unit_and h u) (unit_hole h) (unit_ands bytes h) x.to.part x.to.gates x.holds in
     subst (λ r. At (unit_aim h) (unwound_frames (unit_frames bytes h)) r) (sym x.to_is)
     (subst (λ fs. At (unit_aim h) fs x.to) (sym (left_unit bytes h))
@@ -188,8 +190,8 @@ at_unit : (bytes : List ℕ) (h : UnitHole) (aim : Aim) (gates : List RawGate) (
     (WantsUnit h)
 at_unit bytes h aim gates level frames a g l f =
     let At : Aim → List RawGate → Level → List Frame → Type 0 = λ a' g' l' f'.
-        StandsAt bytes (aim_found bytes a' g') (state.OfAssign (of_assign.WantsUnit (aimed bytes a' l' f')))
-        (WantsUnit h) in
+    StandsAt bytes (aim_found bytes a' g') (state.OfAssign (of_assign.WantsUnit (aimed bytes a' l' f')))
+    (WantsUnit h) in
     subst (λ a'. At a' gates level frames) (sym a) (subst (λ g'. At (unit_aim h) g' level frames) (sym g)
     (subst (λ l'. At (unit_aim h) (unit_gates bytes h) l' frames) (sym l)
     (subst (λ f'. At (unit_aim h) (unit_gates bytes h) (unit_level bytes h) f') (sym f) (AtUnit h))))
@@ -246,8 +248,8 @@ all_end bytes h a ands part gates k =
 
 sim-close : (bytes : List ℕ) (h : OrHole) (o : OrPhrase) (at : Span) (x : Held) (level : Level) (front : List RawGate)
     → IsHeld (or_gates bytes h) (λ n. joined n gate.Or (or_parts bytes n o)) [] x.part x.gates
-    → Follows bytes (close_round h o at) (closed_in (or_frames bytes h) (aimed bytes (or_aim h) level (or_frames bytes h))
-    x (aim_found bytes (or_aim h) front))
+    → Follows bytes (close_round h o at) (closed_in (or_frames bytes h)
+    (aimed bytes (or_aim h) level (or_frames bytes h)) x (aim_found bytes (or_aim h) front))
 sim-close bytes (OfAssign f a t q) o at x level front k = tt
 sim-close bytes (InRound b h) o at x level front k =
     sim-unit bytes h (Bracketed b o at) x.part x.gates front (or_frames bytes (InRound b h)) k

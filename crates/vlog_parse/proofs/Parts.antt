@@ -1,12 +1,11 @@
 -- What the machine holds of a phrase, as the phrase grows.
-use Rattle.std.proofs.Common.{◌≡◌, ℕ, suc, ◌+◌, List, [], ◌∷◌, ◌++◌, length, refl, sym, ap, subst, ◌∙◌, append_assoc, append-nil}
+use Rattle.std.proofs.Common.{◌≡◌, ℕ, ◌+◌, List, [], ◌∷◌, ◌++◌, length, refl, sym, ap, subst, ◌∙◌, append_assoc}
 use Rattle.std.proofs.Common.{length-append, arith}
 use Rattle.net_core.specs.declared.gate.GateKind.{GateKind}
 use Rattle.net_core.specs.declared.gate.GateKind.TheVariants as gate
 use Rattle.vlog_text.specs.declared.raw.RawGate.{RawGate}
 use Rattle.vlog_text.specs.declared.raw.RawName.{RawName}
 use Rattle.vlog_text.specs.declared.raw.RawPin.{RawPin}
-use Rattle.vlog_text.specs.declared.raw.RawPin.TheVariants as pin
 use Rattle.vlog_text.specs.declared.raw.Target.TheVariants as target
 use Rattle.vlog_text.specs.Grammar.{UnitPhrase, Negated, Bracketed, Lone, AndPhrase, OneUnit, MoreUnits, XorPhrase}
 use Rattle.vlog_text.specs.Grammar.{OneAnd, MoreAnds, OrPhrase, OneXor, MoreXors}
@@ -14,8 +13,7 @@ use Rattle.vlog_text.specs.Trees.{Parts, parts, gate_of, with_gate, joined, besi
 use Rattle.vlog_text.specs.Trees.{or_parts, driving}
 use Rattle.vlog_parse.specs.declared.state.Part.{Part}
 use Rattle.vlog_parse.specs.declared.state.Part.TheVariants.{Pin, Made}
-use Rattle.vlog_parse.specs.declared.state.Level.{Level}
-use Rattle.vlog_parse.specs.Machine.{settled_pin, settled_gates, Held, held, made, joined_part, driven}
+use Rattle.vlog_parse.specs.Machine.{settled_pin, settled_gates, held, made, joined_part, driven}
 use Rattle.vlog_parse.proofs.Standing.{IsLone, shown, IsHeld}
 
 pub settled-append : (part : Part) (a b : List RawGate) → settled_gates part (a ++ b) ≡ a ++ settled_gates part b
@@ -61,7 +59,8 @@ joined_at front all (p ∷ pins) part gates kind h =
       own = m.own;
       gates_are = m.gates_are;
       all_is = ap (joined (length front) kind) h.all_is
-          ∙ (joined_more (length front) kind p pins _ _ ∙ (ap (with_gate (length front) kind) (sym h.all_is) ∙ m.all_is));
+          ∙ (joined_more (length front) kind p pins _ _
+          ∙ (ap (with_gate (length front) kind) (sym h.all_is) ∙ m.all_is));
       lone = m.lone;
     }
 

@@ -1,6 +1,7 @@
 -- A phrase is walked over, where it nests no deeper than 64.
-use Rattle.std.proofs.Common.{◌≡◌, ℕ, zero, suc, ◌+◌, ◌≤◌, ◌<◌, max, List, [], ◌∷◌, ◌++◌, Option, Some, None, Bool, true}
-use Rattle.std.proofs.Common.{false, refl, sym, ap, ◌∙◌, append_assoc, append-nil, ltb, inl, inr, ◌⊎◌, arith}
+use Rattle.std.proofs.Common.{◌≡◌, ℕ, ◌+◌, ◌≤◌, ◌<◌, max, List, [], ◌∷◌, ◌++◌, Option, Some, None, Bool}
+use Rattle.std.proofs.Common.{true}
+use Rattle.std.proofs.Common.{false, refl, ap, ◌∙◌, append_assoc, ltb, inl, inr, ◌⊎◌, arith}
 use Rattle.std.proofs.lemmas.Bool.{false≢true}
 use Rattle.std.proofs.lemmas.Bool.Decides.{nat_tests}
 use Rattle.std.specs.Prelude.{IsTrue, not, option_map, option_and_then, if◌then◌else◌}
@@ -11,9 +12,9 @@ use Rattle.net_core.specs.declared.gate.GateKind.{GateKind}
 use Rattle.net_core.specs.declared.gate.GateKind.TheVariants as gate
 use Rattle.vlog_text.specs.declared.raw.DeclKind.{DeclKind}
 use Rattle.vlog_text.specs.declared.token.Token.{Token}
-use Rattle.vlog_text.specs.declared.token.TokenKind.{TokenKind}
 use Rattle.vlog_text.specs.declared.token.TokenKind.TheVariants.{OpenRound, CloseRound, Comma, Semicolon, Tilde}
-use Rattle.vlog_text.specs.declared.token.TokenKind.TheVariants.{Ampersand, Caret, Bar, EndmoduleWord, GateWord, Equals, Arrow}
+use Rattle.vlog_text.specs.declared.token.TokenKind.TheVariants.{Ampersand, Caret, Bar, EndmoduleWord, GateWord, Equals}
+use Rattle.vlog_text.specs.declared.token.TokenKind.TheVariants.{Arrow}
 use Rattle.vlog_text.specs.Grammar.{token, NamePhrase, name_token, name_kind, OperandPhrase, Named, Constant}
 use Rattle.vlog_text.specs.Grammar.{operand_token, UnitPhrase, Negated, Bracketed, Lone, AndPhrase, OneUnit, MoreUnits}
 use Rattle.vlog_text.specs.Grammar.{XorPhrase, OneAnd, MoreAnds, OrPhrase, OneXor, MoreXors, unit_tokens, and_tokens}
@@ -21,20 +22,20 @@ use Rattle.vlog_text.specs.Grammar.{xor_tokens, or_tokens, unit_depth, and_depth
 use Rattle.vlog_text.specs.Grammar.{OneName, MoreNames, OperandsPhrase, OneOperand, MoreOperands, InstancePhrase}
 use Rattle.vlog_text.specs.Grammar.{Unnamed, Instance, is_single, ItemPhrase, Declare, ManyGate, SingleGate, Assign}
 use Rattle.vlog_text.specs.Grammar.{Always, ItemsPhrase, NoItems, MoreItems, TextPhrase, names_tokens, operands_tokens}
-use Rattle.vlog_text.specs.Grammar.{instance_tokens, gate_tokens, item_tokens, items_tokens, text_tokens, item_depth}
+use Rattle.vlog_text.specs.Grammar.{instance_tokens, item_tokens, items_tokens, text_tokens, item_depth}
 use Rattle.vlog_text.specs.Grammar.{items_depth}
 use Rattle.vlog_parse.specs.Places.{Title, Head, OrHole, OfAssign, InRound, XorHole, FirstXor, NextXor, AndHole}
 use Rattle.vlog_parse.specs.Places.{FirstAnd, NextAnd, UnitHole, FirstUnit, NextUnit, UnderNot, FirstPort, NextPort}
-use Rattle.vlog_parse.specs.Places.{FirstDecl, NextDecl, GateFront, PinFront, Place, Start, AfterModule, AfterTitle}
+use Rattle.vlog_parse.specs.Places.{FirstDecl, NextDecl, PinFront, Place, Start, AfterModule, AfterTitle}
 use Rattle.vlog_parse.specs.Places.{WantsPort, AfterPort, InItems, WantsName, AfterName, AfterGateWord, AfterInstance}
-use Rattle.vlog_parse.specs.Places.{WantsTarget, AfterTarget, WantsPin, WantsNextPin, AfterPins, AfterPin, AfterAssign}
+use Rattle.vlog_parse.specs.Places.{WantsTarget, AfterTarget, WantsPin, WantsNextPin, AfterPins, AfterAssign}
 use Rattle.vlog_parse.specs.Places.{AfterAssigned, AfterRegister}
 use Rattle.vlog_parse.specs.Places.{WantsUnit, AfterUnit, AfterEdge, AfterArrow, AfterTaken, Whole, or_nesting}
 use Rattle.vlog_parse.specs.Places.{xor_nesting, and_nesting, unit_nesting}
-use Rattle.vlog_parse.specs.Steps.{name_at, operand_at, single_or_many, with_port, with_name, with_item, unit_hole}
-use Rattle.vlog_parse.specs.Steps.{unit_and, with_unit, and_hole, with_and, xor_hole, with_xor, titled, first_head}
-use Rattle.vlog_parse.specs.Steps.{gate_front, pin_front, edge, with_arity, with_pin, deeper, close_round, end_assign}
-use Rattle.vlog_parse.specs.Steps.{step, walk, whole}
+use Rattle.vlog_parse.specs.Steps.{name_at, operand_at, single_or_many, with_port, with_name, with_item}
+use Rattle.vlog_parse.specs.Steps.{with_unit, titled}
+use Rattle.vlog_parse.specs.Steps.{gate_front, pin_front, edge, with_arity, with_pin, close_round, end_assign}
+use Rattle.vlog_parse.specs.Steps.{step, walk}
 
 -- ---- what a kind of token stands for
 
@@ -203,7 +204,8 @@ single_is gate.Buf single = ap inl (hedberg Bool-discrete true true refl single)
 single_is gate.Not single = ap inl (hedberg Bool-discrete true true refl single)
 single_is _ single = absurd (false≢true single)
 
-walk-pin : (g : PinFront) (p : OperandPhrase) (e : IsTrue (is_single g.gate.kind) ⊎ IsTrue (not (is_single g.gate.kind)))
+walk-pin : (g : PinFront) (p : OperandPhrase)
+    (e : IsTrue (is_single g.gate.kind) ⊎ IsTrue (not (is_single g.gate.kind)))
     (z : List Token) → single_or_many g.gate.kind ≡ e
     → walk (WantsPin g) (operand_token p ∷ z) ≡ walk (with_arity g p e) z
 walk-pin g p e z is =

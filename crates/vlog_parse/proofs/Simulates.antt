@@ -4,40 +4,36 @@ use Rattle.std.proofs.Common.{◌∙◌, inl, inr, ◌⊎◌, append_assoc}
 use Rattle.std.proofs.lemmas.Bool.{false≢true}
 use Rattle.std.specs.Prelude.{if◌then◌else◌, option_map, IsTrue, not}
 use Rattle.pbs_base.specs.declared.refusal.Span.{Span}
-use Rattle.net_core.specs.declared.gate.GateKind.{GateKind}
 use Rattle.vlog_text.specs.declared.raw.DeclKind.{DeclKind}
 use Rattle.vlog_text.specs.declared.raw.RawDecl.{RawDecl}
 use Rattle.vlog_text.specs.declared.raw.RawName.{RawName}
 use Rattle.vlog_text.specs.declared.token.TokenKind.{TokenKind}
-use Rattle.vlog_text.specs.declared.token.TokenKind.TheVariants.{Name, Clock, Bit, DeclWord, GateWord, ModuleWord}
+use Rattle.vlog_text.specs.declared.token.TokenKind.TheVariants.{Name, Clock, DeclWord, GateWord, ModuleWord}
 use Rattle.vlog_text.specs.declared.token.TokenKind.TheVariants.{EndmoduleWord, AssignWord, AlwaysWord, PosedgeWord}
-use Rattle.vlog_text.specs.declared.token.TokenKind.TheVariants.{OpenRound, CloseRound, Comma, Semicolon, Equals, Tilde}
-use Rattle.vlog_text.specs.declared.token.TokenKind.TheVariants.{Ampersand, Caret, Bar, At, Arrow}
-use Rattle.vlog_text.specs.Grammar.{NamePhrase, OperandPhrase, OneOperand, MoreOperands, NamesPhrase, OneName, MoreNames}
-use Rattle.vlog_text.specs.Grammar.{OperandsPhrase, Unnamed, Instance, is_single}
+use Rattle.vlog_text.specs.declared.token.TokenKind.TheVariants.{OpenRound, CloseRound, Comma, Semicolon, Equals}
+use Rattle.vlog_text.specs.declared.token.TokenKind.TheVariants.{At, Arrow}
+use Rattle.vlog_text.specs.Grammar.{NamePhrase, OperandPhrase, OneOperand, MoreOperands, OneName}
+use Rattle.vlog_text.specs.Grammar.{MoreNames}
+use Rattle.vlog_text.specs.Grammar.{Unnamed, Instance, is_single}
 use Rattle.vlog_text.specs.Trees.{name_of, operand_of, names_of, declare}
 use Rattle.vlog_parse.specs.declared.state.Found.{Found}
-use Rattle.vlog_parse.specs.declared.state.Fixed.TheVariants as fixed
 use Rattle.vlog_parse.specs.declared.state.State.{State}
 use Rattle.vlog_parse.specs.declared.state.State.TheVariants as state
-use Rattle.vlog_parse.specs.Places.{Title, Head, OfAssign, FirstXor, FirstAnd, FirstUnit, PortHole, FirstPort, NextPort}
-use Rattle.vlog_parse.specs.Places.{DeclHole, FirstDecl, NextDecl, GateFront, PinFront, Edge, Place, Start, AfterTitle}
-use Rattle.vlog_parse.specs.Places.{AfterPort, AfterPorts, AfterName, AfterGateWord, AfterInstance, AfterTarget}
-use Rattle.vlog_parse.specs.Places.{AfterPins, AfterPin, AfterManyGate, AfterSingleGate, AfterAssigned, AfterAlways}
-use Rattle.vlog_parse.specs.Places.{AfterAt, AfterClockOpen, AfterPosedge, AfterClock, AfterRegister, AfterTaken, Whole}
-use Rattle.vlog_parse.specs.Steps.{name_at, operand_at, single_or_many, with_port, with_name, with_item, start_item}
-use Rattle.vlog_parse.specs.Steps.{titled, first_head, whole, gate_front, pin_front, edge, with_arity, with_pin, step}
+use Rattle.vlog_parse.specs.Places.{OfAssign, FirstXor, FirstAnd, FirstUnit, PortHole, FirstPort, NextPort}
+use Rattle.vlog_parse.specs.Places.{DeclHole, FirstDecl, NextDecl, PinFront, Place}
+use Rattle.vlog_parse.specs.Places.{AfterName}
+use Rattle.vlog_parse.specs.Places.{AfterPins, AfterPin}
+use Rattle.vlog_parse.specs.Steps.{name_at, operand_at, single_or_many, with_port, with_name, with_item}
+use Rattle.vlog_parse.specs.Steps.{titled, first_head, whole, gate_front, pin_front, edge, with_arity, step}
 use Rattle.vlog_parse.specs.Steps.{many_gate, single_gate, always}
-use Rattle.vlog_parse.specs.Steps as steps
 use Rattle.vlog_text.specs.Grammar.{Declare}
-use Rattle.vlog_parse.specs.Machine.{Next, next, keeping, first_pin, item_next, fixed_next, port_next, name_next}
-use Rattle.vlog_parse.specs.Machine.{word_next}
+use Rattle.vlog_parse.specs.Machine.{next, first_pin}
 use Rattle.vlog_parse.proofs.Standing.{StandsAt, AtStart, AtModule, AtTitle, AtPort, BehindPort, BehindPorts, AtItems}
 use Rattle.vlog_parse.proofs.Standing.{AtName, BehindName, AtGateWord, AtInstance, AtTarget, BehindTarget, AtPin}
 use Rattle.vlog_parse.proofs.Standing.{AtNextPin, BehindPins, BehindPin, BehindManyGate, BehindSingleGate, AtAssign}
 use Rattle.vlog_parse.proofs.Standing.{AtAssigned, AtUnit, BehindUnit, AtAlways, AtAt, AtClockOpen, AtPosedge, AtClock}
 use Rattle.vlog_parse.proofs.Standing.{AtEdge, AtRegister, AtArrow, BehindTaken, AtEnd, Follows, found_at}
-use Rattle.vlog_parse.proofs.Standing.{decl_found, names_found, decl_kind, port_found}
+use Rattle.vlog_parse.proofs.Standing.{decl_found, decl_kind, port_found}
 use Rattle.vlog_parse.proofs.Inside.{sim-wanted, sim-behind}
 
 -- a step over a name or an operand
@@ -67,7 +63,8 @@ sim-name : (bytes : List ℕ) (h : DeclHole) (n : NamePhrase)
 sim-name bytes (FirstDecl f k at) n = BehindName f k at (OneName n)
 sim-name bytes (NextDecl f k at ns c) n =
     subst (λ l. StandsAt bytes (let x = found_at bytes f in record x { decls = l }) (state.AfterName k)
-    (AfterName f k at (MoreNames ns c n))) (more_declared k (found_at bytes f).decls (names_of bytes ns) (name_of bytes n))
+    (AfterName f k at (MoreNames ns c n)))
+    (more_declared k (found_at bytes f).decls (names_of bytes ns) (name_of bytes n))
     (BehindName f k at (MoreNames ns c n))
 
 first_of : (b : Bool) (x y : State) → IsTrue b → x ≡ (if b then x else y)

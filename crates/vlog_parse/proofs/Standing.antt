@@ -8,7 +8,8 @@ use Rattle.vlog_text.specs.declared.raw.RawGate.{RawGate}
 use Rattle.vlog_text.specs.declared.raw.RawPin.{RawPin}
 use Rattle.vlog_text.specs.Grammar.{NamePhrase, OperandPhrase, AndPhrase, NamesPhrase, OperandsPhrase, is_single}
 use Rattle.vlog_text.specs.Grammar.{TextPhrase}
-use Rattle.vlog_text.specs.Trees.{name_of, operand_of, names_of, operands_of, Parts, parts, and_parts, xor_parts, or_parts}
+use Rattle.vlog_text.specs.Trees.{name_of, operand_of, names_of, operands_of, Parts, parts, and_parts, xor_parts}
+use Rattle.vlog_text.specs.Trees.{or_parts}
 use Rattle.vlog_text.specs.Trees.{found_in, declare}
 use Rattle.vlog_parse.specs.declared.state.Found.{Found}
 use Rattle.vlog_parse.specs.declared.state.Level.{Level}
@@ -32,7 +33,8 @@ use Rattle.vlog_parse.specs.Places.{WantsNextPin, AfterPins, AfterPin, AfterMany
 use Rattle.vlog_parse.specs.Places.{AfterAssigned, WantsUnit, AfterUnit, AfterAlways, AfterAt, AfterClockOpen}
 use Rattle.vlog_parse.specs.Places.{AfterPosedge, AfterClock, AfterEdge, AfterRegister, AfterArrow, AfterTaken, Whole}
 use Rattle.vlog_parse.specs.Steps.{unit_hole, and_hole, xor_hole}
-use Rattle.vlog_parse.specs.Machine.{settled_pin, settled_gates, with_gates, with_gate, next, Next, no_parts, wants_unit, nothing}
+use Rattle.vlog_parse.specs.Machine.{settled_pin, settled_gates, with_gates, with_gate, Next}
+use Rattle.vlog_parse.specs.Machine.{nothing}
 
 -- ---- what was found
 
@@ -262,7 +264,8 @@ pub data StandsAt (bytes : List ℕ) : Found → State → Place → Type 0 wher
       → StandsAt bytes (found_at bytes f) (state.OfFixed fixed.AfterClock) (AfterClock f a b c d e)
   AtEdge : (e : Edge) → StandsAt bytes (found_at bytes e.head) (state.OfReg of_reg.AfterEdge) (AfterEdge e)
   AtRegister : (e : Edge) (t : NamePhrase)
-      → StandsAt bytes (found_at bytes e.head) (state.OfReg (of_reg.AfterRegister (name_of bytes t))) (AfterRegister e t)
+      → StandsAt bytes (found_at bytes e.head) (state.OfReg (of_reg.AfterRegister (name_of bytes t)))
+      (AfterRegister e t)
   AtArrow : (e : Edge) (t : NamePhrase) (r : Span)
       → StandsAt bytes (found_at bytes e.head) (state.OfReg (of_reg.AfterArrow (name_of bytes t))) (AfterArrow e t r)
   BehindTaken : (e : Edge) (t : NamePhrase) (r : Span) (p : OperandPhrase)

@@ -1,5 +1,5 @@
 -- A step adds its token to what stood before, and so does a walk.
-use Rattle.std.proofs.Common.{◌≡◌, ℕ, List, [], ◌∷◌, ◌++◌, Bool, Option, Some, None, refl, sym, ap, ◌∙◌, append_assoc}
+use Rattle.std.proofs.Common.{◌≡◌, List, [], ◌∷◌, ◌++◌, Bool, Option, Some, None, refl, sym, ap, ◌∙◌, append_assoc}
 use Rattle.std.proofs.Common.{append-nil, false, true, ltb, inl, inr}
 use Rattle.std.specs.Prelude.{IfSome, IsTrue, not, option_map, option_and_then, ⊤, ◌⊎◌, if◌then◌else◌}
 use Rattle.pbs_base.specs.declared.refusal.Span.{Span}
@@ -11,21 +11,25 @@ use Rattle.vlog_text.specs.declared.token.TokenKind.TheVariants.{EndmoduleWord, 
 use Rattle.vlog_text.specs.declared.token.TokenKind.TheVariants.{OpenRound, CloseRound, Comma, Semicolon, Equals, Tilde}
 use Rattle.vlog_text.specs.declared.token.TokenKind.TheVariants.{Ampersand, Caret, Bar, At, Arrow}
 use Rattle.vlog_text.specs.Grammar.{token, NamePhrase, name_token, OperandPhrase, operand_token, UnitPhrase, Negated}
-use Rattle.vlog_text.specs.Grammar.{Bracketed, Lone, AndPhrase, XorPhrase, OrPhrase, unit_tokens, and_tokens, xor_tokens}
-use Rattle.vlog_text.specs.Grammar.{or_tokens, is_single, operands_tokens, ItemPhrase, item_tokens, names_tokens, items_tokens, instance_tokens}
-use Rattle.vlog_parse.specs.Places.{Title, Head, OrHole, OfAssign, InRound, XorHole, FirstXor, NextXor, AndHole}
+use Rattle.vlog_text.specs.Grammar.{Bracketed, Lone, AndPhrase, XorPhrase, OrPhrase, unit_tokens, and_tokens}
+use Rattle.vlog_text.specs.Grammar.{xor_tokens}
+use Rattle.vlog_text.specs.Grammar.{or_tokens, is_single, operands_tokens, ItemPhrase, item_tokens, names_tokens}
+use Rattle.vlog_text.specs.Grammar.{items_tokens, instance_tokens}
+use Rattle.vlog_parse.specs.Places.{Head, OrHole, OfAssign, InRound, XorHole, FirstXor, NextXor, AndHole}
 use Rattle.vlog_parse.specs.Places.{FirstAnd, NextAnd, UnitHole, FirstUnit, NextUnit, UnderNot, PortHole, FirstPort}
-use Rattle.vlog_parse.specs.Places.{NextPort, DeclHole, FirstDecl, NextDecl, GateFront, PinFront, Edge, Place, Start}
+use Rattle.vlog_parse.specs.Places.{NextPort, DeclHole, FirstDecl, NextDecl, PinFront, Place, Start}
 use Rattle.vlog_parse.specs.Places.{AfterModule, AfterTitle, WantsPort, AfterPort, AfterPorts, InItems, WantsName}
 use Rattle.vlog_parse.specs.Places.{AfterName, AfterGateWord, AfterInstance, WantsTarget, AfterTarget, WantsPin}
 use Rattle.vlog_parse.specs.Places.{WantsNextPin, AfterPins, AfterPin, AfterManyGate, AfterSingleGate, AfterAssign}
 use Rattle.vlog_parse.specs.Places.{AfterAssigned, WantsUnit, AfterUnit, AfterAlways, AfterAt, AfterClockOpen}
-use Rattle.vlog_parse.specs.Places.{AfterPosedge, AfterClock, AfterEdge, AfterRegister, AfterArrow, AfterTaken, Whole}
+use Rattle.vlog_parse.specs.Places.{AfterPosedge, AfterClock, AfterEdge, AfterRegister, AfterArrow, AfterTaken}
 use Rattle.vlog_parse.specs.Places.{before, before_or, before_xor, before_and, before_unit, before_port, before_decl}
-use Rattle.vlog_parse.specs.Places.{head_tokens, title_tokens, unit_nesting, pin_front_tokens, edge_tokens, gate_front_tokens}
+use Rattle.vlog_parse.specs.Places.{head_tokens, title_tokens, unit_nesting, pin_front_tokens, edge_tokens}
+use Rattle.vlog_parse.specs.Places.{gate_front_tokens}
 use Rattle.vlog_parse.specs.Steps.{name_at, operand_at, single_or_many, with_port, with_name, unit_hole, unit_and}
-use Rattle.vlog_parse.specs.Steps.{with_unit, and_hole, with_and, xor_hole, with_xor, start_item, with_arity, with_pin}
-use Rattle.vlog_parse.specs.Steps.{with_item, always, many_gate, single_gate, deeper, start_unit, close_round, end_assign, end_unit, step, walk}
+use Rattle.vlog_parse.specs.Steps.{with_unit, and_hole, with_and, xor_hole, with_xor, start_item, with_arity}
+use Rattle.vlog_parse.specs.Steps.{with_item, always, many_gate, single_gate, start_unit, close_round}
+use Rattle.vlog_parse.specs.Steps.{end_assign, end_unit, step, walk}
 
 -- the tokens before a place are these and one more
 abbrev Adds : List Token → TokenKind → Span → Place → Type 0
@@ -152,7 +156,8 @@ always_more h e p z = simp append_assoc
 
 instance-before : (f : Head) (g : GateKind) (a : Span) (k : TokenKind) (at : Span)
     → IfSome (option_map (λ n. AfterInstance f g a n) (name_at k at)) (Adds (before (AfterGateWord f g a)) k at)
-instance-before f g a k at = mapped (name_at k at) _ _ _ (name_back k at) (λ n e. ap (λ t. head_tokens f ++ token (GateWord g) a ∷ t ∷ []) e ∙ sym (append_assoc (head_tokens f) _ _))
+instance-before f g a k at = mapped (name_at k at) _ _ _ (name_back k at)
+    (λ n e. ap (λ t. head_tokens f ++ token (GateWord g) a ∷ t ∷ []) e ∙ sym (append_assoc (head_tokens f) _ _))
 
 step-before : (p : Place) (k : TokenKind) (at : Span) → IfSome (step p k at) (Adds (before p) k at)
 step-before Start ModuleWord at = refl
@@ -181,7 +186,7 @@ step-before (WantsNextPin g many ps c) k at = mapped (operand_at k at) _ _ _ (op
 step-before (AfterPins g many ps) Comma at = sym (append_assoc (pin_front_tokens g) _ _)
 step-before (AfterPins g many ps) CloseRound at = sym (append_assoc (pin_front_tokens g) _ _)
 step-before (AfterPin g single p) CloseRound at = sym (append_assoc (pin_front_tokens g) _ _)
-step-before (AfterManyGate g many ps c) Semicolon at = 
+step-before (AfterManyGate g many ps c) Semicolon at =
     ended_item g.gate.head (many_gate g many ps c at) (before (AfterManyGate g many ps c)) (token Semicolon at)
     (gate_more (head_tokens g.gate.head) (instance_tokens g.gate.name) (operands_tokens ps) _ _ _ _ _ _)
 step-before (AfterSingleGate g single p c) Semicolon at =

@@ -1,5 +1,5 @@
 -- Going over a text: reserved words in parts, signs of one byte, and what was found before.
-use Rattle.std.specs.Prelude.{ℕ, ◌≡◌, ◌≤◌, ◌<◌, ◌==◌, if◌then◌else◌, List, [], ◌∷◌, ◌++◌, codes, Result, Ok, Err}
+use Rattle.std.specs.Prelude.{ℕ, ◌≤◌, ◌<◌, ◌==◌, if◌then◌else◌, List, [], ◌∷◌, ◌++◌, codes, Result, Ok, Err}
 use Rattle.pbs_base.specs.declared.refusal.Span.{Span}
 use Rattle.net_core.specs.declared.gate.GateKind.TheVariants.{Buf, Not, And, Or, Nand, Nor, Xor, Xnor}
 use Rattle.vlog_text.specs.declared.raw.DeclKind.TheVariants.{Input, Output, Wire, Reg}

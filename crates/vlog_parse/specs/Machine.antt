@@ -1,5 +1,6 @@
 -- The step of the machine that reads tokens, on what it has found.
-use Rattle.std.specs.Prelude.{ℕ, Bool, true, false, nat_lt, if◌then◌else◌, List, [], ◌∷◌, ◌++◌, length, Option, Some, None}
+use Rattle.std.specs.Prelude.{ℕ, Bool, true, false, nat_lt, if◌then◌else◌, List, [], ◌∷◌, ◌++◌, length, Option, Some}
+use Rattle.std.specs.Prelude.{None}
 use Rattle.std.specs.Prelude.{◌≡◌, ◌<◌, option_map}
 use Rattle.pbs_base.specs.declared.refusal.Span.{Span}
 use Rattle.net_core.specs.declared.gate.GateKind.{GateKind}
@@ -12,7 +13,7 @@ use Rattle.vlog_text.specs.declared.raw.RawPin.{RawPin}
 use Rattle.vlog_text.specs.declared.raw.RawPin.TheVariants as pin
 use Rattle.vlog_text.specs.declared.raw.Target.TheVariants as target
 use Rattle.vlog_text.specs.declared.token.TokenKind.{TokenKind}
-use Rattle.vlog_text.specs.declared.token.TokenKind.TheVariants.{Name, Clock, Bit, DeclWord, GateWord, ModuleWord}
+use Rattle.vlog_text.specs.declared.token.TokenKind.TheVariants.{Name, Clock, DeclWord, GateWord, ModuleWord}
 use Rattle.vlog_text.specs.declared.token.TokenKind.TheVariants.{EndmoduleWord, AssignWord, AlwaysWord, PosedgeWord}
 use Rattle.vlog_text.specs.declared.token.TokenKind.TheVariants.{OpenRound, CloseRound, Comma, Semicolon, Equals, Tilde}
 use Rattle.vlog_text.specs.declared.token.TokenKind.TheVariants.{Ampersand, Caret, Bar, At, Arrow}
@@ -275,7 +276,8 @@ gate_next bytes (of_gate.AfterTarget kind name) f k at = keeping f (target_next 
 gate_next bytes (of_gate.WantsPin kind name) f k at =
     option_map (λ p. (first_pin kind name (operand_of bytes p), f)) (operand_at k at)
 gate_next bytes (of_gate.WantsNextPin kind name pins) f k at =
-    option_map (λ p. (state.OfGate (of_gate.AfterPins kind name (pins ++ operand_of bytes p ∷ [])), f)) (operand_at k at)
+    option_map (λ p. (state.OfGate (of_gate.AfterPins kind name (pins ++ operand_of bytes p ∷ [])), f))
+    (operand_at k at)
 gate_next bytes (of_gate.AfterPins kind name pins) f k at = pins_next kind name pins f k
 gate_next bytes (of_gate.AfterPin kind name pins) f k at = pin_next kind name pins f k
 
@@ -284,9 +286,12 @@ reg_next bytes of_reg.AfterEdge f k at =
     option_map (λ n. (state.OfReg (of_reg.AfterRegister (name_of bytes n)), f)) (name_at k at)
 reg_next bytes (of_reg.AfterRegister name) f k at = keeping f (register_next name k)
 reg_next bytes (of_reg.AfterArrow name) f k at =
-    option_map (λ p. (state.OfFixed fixed.WantsEnd, record f {
-      regs = f.regs ++ (record { target = name; wire = operand_of bytes p }) ∷ [];
-    })) (operand_at k at)
+    option_map (λ p. (
+      state.OfFixed fixed.WantsEnd,
+      record f {
+        regs = f.regs ++ (record { target = name; wire = operand_of bytes p }) ∷ [];
+      },
+    )) (operand_at k at)
 
 abbrev pub title_next : List ℕ → Found → TokenKind → Span → Next
 title_next bytes f k at =
@@ -298,9 +303,12 @@ listed_next bytes f k at =
 
 abbrev pub declared_next : List ℕ → DeclKind → Found → TokenKind → Span → Next
 declared_next bytes kind f k at =
-    option_map (λ n. (state.AfterName kind, record f {
-      decls = f.decls ++ (record { kind = kind; name = name_of bytes n }) ∷ [];
-    })) (name_at k at)
+    option_map (λ n. (
+      state.AfterName kind,
+      record f {
+        decls = f.decls ++ (record { kind = kind; name = name_of bytes n }) ∷ [];
+      },
+    )) (name_at k at)
 
 -- the machine behind a token, where the token may stand
 abbrev pub next : List ℕ → State → Found → TokenKind → Span → Next

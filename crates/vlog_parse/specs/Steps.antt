@@ -1,11 +1,10 @@
 -- The step over one token.
-use Rattle.std.specs.Prelude.{ℕ, Bool, true, false, not, IsTrue, nat_lt, ◌⊎◌, List, [], ◌∷◌, Option, Some, None}
+use Rattle.std.specs.Prelude.{Bool, true, false, not, IsTrue, nat_lt, ◌⊎◌, List, [], ◌∷◌, Option, Some, None}
 use Rattle.std.proofs.Common.{inl, inr}
 use Rattle.std.specs.Prelude.{option_map, option_and_then, if◌then◌else◌, refl}
 use Rattle.pbs_base.specs.declared.refusal.Span.{Span}
 use Rattle.net_core.specs.declared.gate.GateKind.{GateKind}
 use Rattle.net_core.specs.declared.gate.GateKind.TheVariants as gate
-use Rattle.vlog_text.specs.declared.raw.DeclKind.{DeclKind}
 use Rattle.vlog_text.specs.declared.token.Token.{Token}
 use Rattle.vlog_text.specs.declared.token.TokenKind.{TokenKind}
 use Rattle.vlog_text.specs.declared.token.TokenKind.TheVariants.{Name, Clock, Bit, DeclWord, GateWord, ModuleWord}
@@ -143,8 +142,8 @@ start_item f AlwaysWord at = Some (AfterAlways f at)
 start_item f EndmoduleWord at = Some (Whole (whole f at))
 start_item f _ at = None
 
-abbrev pub with_arity : (g : PinFront) → OperandPhrase → IsTrue (is_single g.gate.kind) ⊎ IsTrue (not (is_single g.gate.kind))
-    → Place
+abbrev pub with_arity : (g : PinFront) → OperandPhrase
+    → IsTrue (is_single g.gate.kind) ⊎ IsTrue (not (is_single g.gate.kind)) → Place
 with_arity g p (inl single) = AfterPin g single p
 with_arity g p (inr many) = AfterPins g many (OneOperand p)
 

@@ -1,6 +1,7 @@
 // The gates of an `assign`.
 ghost use Rattle.std.specs.Prelude.{◌≡◌, [], ◌∷◌, ◌++◌, length, IfOk, OnOk};
-ghost use Rattle.vlog_parse.specs.Machine.{joined_part, held, made, settled_gates, settled_pin, unwound, unwound_frames};
+ghost use Rattle.vlog_parse.specs.Machine.{joined_part, held, made, settled_gates, settled_pin, unwound};
+ghost use Rattle.vlog_parse.specs.Machine.{unwound_frames};
 ghost use Rattle.vlog_parse.specs.Machine.{and_held, driven, or_held, with_part, xor_held};
 ghost use Rattle.net_core.specs.declared.gate.GateKind.TheVariants as gate;
 
@@ -70,7 +71,12 @@ pub(crate) fn join_and(ands: RawPins, part: Part, gates: &mut RawGates) -> Resul
 }
 
 /// What the parts of an `xor` come to.
-pub(crate) fn join_xor(xors: RawPins, ands: RawPins, part: Part, gates: &mut RawGates) -> Result<Part, Memory>
+pub(crate) fn join_xor(
+    xors: RawPins,
+    ands: RawPins,
+    part: Part,
+    gates: &mut RawGates,
+) -> Result<Part, Memory>
     ensures { IfOk result (λ p. held p gates.new
         ≡ joined_part gate.Xor xors (joined_part gate.And ands (held part gates.old))) }
 {

@@ -161,7 +161,12 @@ fn first_pin(
     Ok(Some(State::OfGate(GateState::AfterPins(gate, target, pins))))
 }
 
-fn end_gate(gate: GateKind, target: RawName, pins: RawPins, found: &mut Found) -> Result<Option<State>, Memory>
+fn end_gate(
+    gate: GateKind,
+    target: RawName,
+    pins: RawPins,
+    found: &mut Found,
+) -> Result<Option<State>, Memory>
     ensures { IfOk result (λ r. IsNext (machine.end_gate gate target pins found.old) r found.new) }
 {
     found.gates.push(RawGate {
@@ -200,7 +205,9 @@ fn gate_next(
             None => Ok(None),
         },
         GateState::AfterPins(gate, target, pins) => match token.kind {
-            TokenKind::Comma => Ok(Some(State::OfGate(GateState::WantsNextPin(gate, target, pins)))),
+            TokenKind::Comma => Ok(Some(State::OfGate(GateState::WantsNextPin(
+                gate, target, pins,
+            )))),
             TokenKind::CloseRound => end_gate(gate, target, pins, found),
             _ => Ok(None),
         },
@@ -269,7 +276,12 @@ fn reg_next(
 
 // ---- names
 
-fn title(alloc: Global, bytes: &[u8], token: Token, found: &mut Found) -> Result<Option<State>, Memory>
+fn title(
+    alloc: Global,
+    bytes: &[u8],
+    token: Token,
+    found: &mut Found,
+) -> Result<Option<State>, Memory>
     ensures { IfOk result (λ r. IsNext (machine.title_next bytes.now found.old token.kind token.span) r found.new) }
 {
     match name(alloc, bytes, token)? {
@@ -281,7 +293,12 @@ fn title(alloc: Global, bytes: &[u8], token: Token, found: &mut Found) -> Result
     }
 }
 
-fn port(alloc: Global, bytes: &[u8], token: Token, found: &mut Found) -> Result<Option<State>, Memory>
+fn port(
+    alloc: Global,
+    bytes: &[u8],
+    token: Token,
+    found: &mut Found,
+) -> Result<Option<State>, Memory>
     ensures { IfOk result (λ r. IsNext (machine.listed_next bytes.now found.old token.kind token.span) r found.new) }
 {
     match name(alloc, bytes, token)? {

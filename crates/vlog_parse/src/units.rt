@@ -131,7 +131,12 @@ fn behind_and(assigned: Assigned, part: Part, found: &mut Found) -> Result<Optio
     Ok(Some(wants_unit(assigned.target, Level { ors, xors, ands }, assigned.frames)))
 }
 
-fn behind_xor(alloc: Global, assigned: Assigned, part: Part, found: &mut Found) -> Result<Option<State>, Memory>
+fn behind_xor(
+    alloc: Global,
+    assigned: Assigned,
+    part: Part,
+    found: &mut Found,
+) -> Result<Option<State>, Memory>
     ensures { IfOk result (λ r. IsNext (machine.xor_next assigned part found.old) r found.new) }
 {
     let Level { ors, xors, ands } = assigned.level;
@@ -146,7 +151,12 @@ fn behind_xor(alloc: Global, assigned: Assigned, part: Part, found: &mut Found) 
     Ok(Some(wants_unit(assigned.target, level, assigned.frames)))
 }
 
-fn behind_or(alloc: Global, assigned: Assigned, part: Part, found: &mut Found) -> Result<Option<State>, Memory>
+fn behind_or(
+    alloc: Global,
+    assigned: Assigned,
+    part: Part,
+    found: &mut Found,
+) -> Result<Option<State>, Memory>
     ensures { IfOk result (λ r. IsNext (machine.or_next assigned part found.old) r found.new) }
 {
     let Level { ors, xors, ands } = assigned.level;
@@ -161,7 +171,12 @@ fn behind_or(alloc: Global, assigned: Assigned, part: Part, found: &mut Found) -
     Ok(Some(wants_unit(assigned.target, level, assigned.frames)))
 }
 
-fn close_round(alloc: Global, assigned: Assigned, part: Part, found: &mut Found) -> Result<Option<State>, Memory>
+fn close_round(
+    alloc: Global,
+    assigned: Assigned,
+    part: Part,
+    found: &mut Found,
+) -> Result<Option<State>, Memory>
     ensures { IfOk result (λ r. IsNext (machine.close_next assigned part found.old) r found.new) }
 {
     let mut frames = assigned.frames;
@@ -174,7 +189,12 @@ fn close_round(alloc: Global, assigned: Assigned, part: Part, found: &mut Found)
     }
 }
 
-fn end_assign(alloc: Global, assigned: Assigned, part: Part, found: &mut Found) -> Result<Option<State>, Memory>
+fn end_assign(
+    alloc: Global,
+    assigned: Assigned,
+    part: Part,
+    found: &mut Found,
+) -> Result<Option<State>, Memory>
     ensures { IfOk result (λ r. IsNext (machine.end_next assigned part found.old) r found.new) }
 {
     if assigned.frames.len() > 0 {

@@ -1,6 +1,6 @@
-use Rattle.std.proofs.Common.{◌≡◌, refl, sym, ◌∙◌}
-use Rattle.std.specs.Prelude.{IfOk}
-use Rattle.vlog_parse.proofs.Reaching.{reached_start, reached_whole, reached_end, loop_more, loop_stop, loop_over, found_whole}
+use Rattle.std.proofs.Common.{refl, sym, ◌∙◌}
+use Rattle.vlog_parse.proofs.Reaching.{reached_start, reached_end, loop_more, loop_stop, loop_over}
+use Rattle.vlog_parse.proofs.Reaching.{found_whole}
 use Rattle.vlog_parse.proofs.parse.read.Goals as goal
 
 pub loop-token-init : goal.loop-token-init
