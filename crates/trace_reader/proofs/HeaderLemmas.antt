@@ -61,6 +61,10 @@ front_begins (x ∷ b) text long h = lines_front x b text h
 either_none : (a b : Bool) → a ≡ false → b ≡ false → (a || b) ≡ false
 either_none a b p q = rw (p, q) refl
 
+either_true : (a : Bool) → (a || true) ≡ true
+either_true true = refl
+either_true false = refl
+
 both_open : (a b : List ℕ) → has_newline a ≡ false → has_newline b ≡ false → has_newline (a ++ b) ≡ false
 both_open a b p q = list_any-append (λ c. nat_eq c 10) a b ∙ either_none (has_newline a) (has_newline b) p q
 
@@ -78,6 +82,7 @@ long_front t now piece last room found begun left less none is new =
       phase = refl;
       within = omega arith;
       bytes = tt;
+      line = λ e. absurd (cc);
     })
 
 -- the text with the newline of the piece
@@ -114,6 +119,7 @@ long_line t now piece last room n found begun left less front some is new =
       phase = refl;
       within = most;
       bytes = tt;
+      line = λ e. absurd (cc);
     })
 
 -- ---- a piece without a newline
@@ -137,9 +143,10 @@ header_more t now piece last room begun left fits none goes_on new = rw new (rec
       open_line = none;
       goes_on = goes_on;
       within = omega (arith, begun.used);
-      good = λ h. absurd (cc);
+      row = λ h. absurd (cc);
     },
   );
+  line = λ e. absurd (cc);
 })
 
 -- ---- the end of the header's line
@@ -179,6 +186,12 @@ trace_last ports (x ∷ b) none short =
     (bare_open (x ∷ b) none))
     ∙ ap (λ k. headed (header_order ports (x ∷ b)) k []) (sym (add-zero (length (x ∷ b)))))
 
+has_front : (piece : List ℕ) (n : ℕ) → IsFront 10 piece n → (n ≡ length piece → ⊥) → has_newline piece ≡ true
+has_front piece n front some =
+    ap has_newline (front_split 10 n piece front some)
+    ∙ (list_any-append (λ c. nat_eq c 10) (take n piece) (10 ∷ drop (n + 1) piece)
+    ∙ either_true (has_newline (take n piece)))
+
 pub header_ended : (t mid now : ReaderState) (piece : List ℕ) (last : Bool) (room n : ℕ) (found : Head) → IsInHeader t
     → room + length t.begun ≡ 67108864 → n < room → IsFront 10 piece n → (n ≡ length piece → ⊥)
     → mid ≡ state_of t.ports phase.Header (t.used + length (take n piece)) (t.begun ++ take n piece) t.order
@@ -210,6 +223,7 @@ header_ended t mid now piece last room n found begun left fits front some made e
       within = below;
       bytes = used_by found t now piece (n + 1) last ends.ended line
           (λ e. let count = ends.used e in omega (arith, count, same_used, taken));
+      line = λ e. record { begun = ends.begun e; newline = λ more. has_front piece n front some };
     }
 
 pub header_last : (t mid now : ReaderState) (piece : List ℕ) (last : Bool) (room : ℕ) (found : Head) → IsInHeader t
@@ -237,4 +251,5 @@ header_last t mid now piece last room found begun left fits none end made ends =
       within = omega arith;
       bytes = used_by found t now piece (length piece) last ends.ended (sym (first_open piece none))
           (λ e. let count = ends.used e in omega (arith, count, same_used));
+      line = λ e. record { begun = ends.begun e; newline = λ more. absurd (let h = sym end ∙ more in cc) };
     }

@@ -1,8 +1,9 @@
 -- A reader goes over the bytes of a piece.
-use Rattle.std.proofs.Common.{◌≡◌, ℕ, suc, ◌+◌, ◌<◌, Bool, true, false, nat_eq, List, [], ◌∷◌, ◌++◌, length, drop}
+use Rattle.std.proofs.Common.{◌≡◌, ℕ, zero, suc, ◌+◌, ◌<◌, Bool, true, false, nat_eq, ◌||◌, List, [], ◌∷◌, ◌++◌, length, drop}
 use Rattle.std.proofs.Common.{get_or, drop-cons, add-one, refl, sym, ap, ◌∙◌, arith}
 use Rattle.std.proofs.lemmas.List.{drop_all}
 use Rattle.trace_reader.specs.Traces.{first_line}
+use Rattle.trace_reader.specs.States.{BegunAfter, EndsLine, IsLineEnd}
 use Rattle.trace_reader.specs.States.{IsInRow, IsUsed, ReaderState, ReadsRow, UsedByRow, has_newline, row_then}
 use Rattle.trace_reader.specs.States.{rows_from}
 use Rattle.trace_reader.specs.Calls.{ByteFor, EndsText, IsAnswer, TakesByte}
@@ -87,6 +88,41 @@ used_by before now next piece last n answer.Reset so_far h other byte = used_up 
 used_by before now next piece last n answer.End so_far h other byte = absurd byte
 used_by before now next piece last n (answer.Refused refusal) so_far h other byte = tt
 
+either_true : (a : Bool) → (a || true) ≡ true
+either_true true = refl
+either_true false = refl
+
+-- the piece has the newline with which the line ends
+has_byte : (piece : List ℕ) (n : ℕ) → n < length piece → get_or piece n 0 ≡ 10 → has_newline piece ≡ true
+has_byte [] n h at = absurd (omega arith)
+has_byte (c ∷ piece) zero h at = ap (λ d. nat_eq d 10 || has_newline piece) at
+has_byte (c ∷ piece) (suc n) h at =
+    ap (λ b. nat_eq c 10 || b) (has_byte piece n (omega arith) at) ∙ either_true (nat_eq c 10)
+
+line_of : (next : ReaderState) (piece : List ℕ) (last : Bool) (n : ℕ) → n < length piece → get_or piece n 0 ≡ 10
+    → next.begun ≡ [] → IsLineEnd next piece last
+line_of next piece last n h at none = record { begun = none; newline = λ more. has_byte piece n h at }
+
+ends_line : (now next : ReaderState) (piece : List ℕ) (last : Bool) (n : ℕ) (row : Row)
+    → n < length piece → BegunAfter row next → ByteFor row now next (get_or piece n 0) → EndsLine row next piece last
+ends_line now next piece last n answer.More h none byte = tt
+ends_line now next piece last n (answer.Vector x) h none byte = line_of next piece last n h byte.0 none
+ends_line now next piece last n answer.Reset h none byte = line_of next piece last n h byte.0 none
+ends_line now next piece last n answer.End h none byte = tt
+ends_line now next piece last n (answer.Refused refusal) h none byte = tt
+
+last_line : (next : ReaderState) (piece : List ℕ) (last : Bool) → last ≡ true → next.begun ≡ []
+    → IsLineEnd next piece last
+last_line next piece last end none = record { begun = none; newline = λ more. absurd (let e = sym end ∙ more in cc) }
+
+ends_text : (next : ReaderState) (piece : List ℕ) (last : Bool) (row : Row) → last ≡ true → BegunAfter row next
+    → EndsLine row next piece last
+ends_text next piece last answer.More end none = tt
+ends_text next piece last (answer.Vector x) end none = last_line next piece last end none
+ends_text next piece last answer.Reset end none = last_line next piece last end none
+ends_text next piece last answer.End end none = tt
+ends_text next piece last (answer.Refused refusal) end none = tt
+
 pub row_ended : (before now next : ReaderState) (piece : List ℕ) (last : Bool) (n : ℕ) (row : Row)
     → Passed before now piece n → n < length piece → TakesByte now next (get_or piece n 0) row
     → (row ≡ answer.More → ⊥) → ReadsRow before next piece last (n + 1) row
@@ -97,6 +133,7 @@ row_ended before now next piece last n row so_far h takes other = record {
   phase = takes.phase;
   within = omega arith;
   bytes = used_by before now next piece last n row so_far h other takes.byte;
+  line = ends_line now next piece last n row h takes.begun takes.byte;
 }
 
 -- ---- the end of the piece
@@ -142,6 +179,7 @@ text_ended before now next piece last row so_far end ends = record {
   phase = ends.phase;
   within = omega arith;
   bytes = used_at_end before now next piece last row so_far ends.used ends.ended;
+  line = ends_text next piece last row end ends.begun;
 }
 
 pub more_to_come : (before now : ReaderState) (piece : List ℕ) (last : Bool) → Passed before now piece (length piece)
@@ -158,7 +196,8 @@ more_to_come before now piece last so_far more begun = record {
       open_line = so_far.open_line ∙ ap has_newline (none_behind piece);
       goes_on = more;
       within = begun.within;
-      good = λ h. begun.right;
+      row = λ h. begun;
     },
   );
+  line = tt;
 }

@@ -6,7 +6,7 @@ use Rattle.pbs_base.specs.declared.entry.Entry.{Entry}
 use Rattle.pbs_base.specs.declared.entry.Entry.TheVariants as entries
 use Rattle.trace_reader.specs.Traces.{Good, Wrong, entry, followed, lines, no_rows, refused, right, rows, Rows}
 use Rattle.trace_reader.specs.Steps.{whole, Wants}
-use Rattle.trace_reader.specs.States.{IsInRow, ReaderState, row_then, state_of, row_phase}
+use Rattle.trace_reader.specs.States.{BegunAfter, IsInRow, ReaderState, row_then, state_of, row_phase}
 use Rattle.trace_reader.specs.Calls.{ByteFor, EndsText, IsAnswer, TakesByte, row_of}
 use Rattle.trace_reader.specs.declared.answers.Phase.TheVariants as phase
 use Rattle.trace_reader.specs.declared.answers.Row.{Row}
@@ -23,6 +23,7 @@ takes_long t now c used row at begun full is new = rw (is, new) (record {
   order = refl;
   phase = refl;
   byte = tt;
+  begun = tt;
 })
 
 pub takes_wrong : (t now : ReaderState) (c used : ℕ) (row : Row) → used ≡ t.used → IsInRow t → (used ≡ 67108864 → ⊥)
@@ -39,6 +40,7 @@ takes_wrong t now c used row at begun few wrong part is new =
       order = refl;
       phase = refl;
       byte = tt;
+      begun = tt;
     })
 
 digit_inside : (n : ℕ) (b : List ℕ) (c : ℕ) → right n b ≡ length b → Wants n b c true → nat_eq c 10 ≡ false
@@ -57,6 +59,7 @@ takes_more t now c row begun wants is new = rw (is, new) (record {
   order = refl;
   phase = refl;
   byte = (digit_inside (length t.order) t.begun c begun.right wants, refl);
+  begun = tt;
 })
 
 row_answer : (e : Entry) (behind : Rows) → followed (Good e) behind ≡ row_then (row_of e) behind
@@ -71,6 +74,10 @@ byte_answer : (e : Entry) (before now : ReaderState) (c : ℕ) → c ≡ 10 → 
     → ByteFor (row_of e) before now c
 byte_answer (entries.Vector x) before now c h k = (h, k)
 byte_answer entries.Reset before now c h k = (h, k)
+
+begun_answer : (e : Entry) (now : ReaderState) → now.begun ≡ [] → BegunAfter (row_of e) now
+begun_answer (entries.Vector x) now h = h
+begun_answer entries.Reset now h = h
 
 is_answer : (e : Entry) → IsAnswer (row_of e)
 is_answer (entries.Vector x) = tt
@@ -90,6 +97,7 @@ takes_end t now c used row at begun few newline all is new =
       order = refl;
       phase = phase_answer (entry t.order t.begun);
       byte = byte_answer (entry t.order t.begun) t (state_of t.ports phase.Rows (t.used + 1) [] t.order) c newline refl;
+      begun = begun_answer (entry t.order t.begun) _ refl;
     })
 
 -- ---- the end of the text
@@ -104,6 +112,7 @@ ends_none t now row none is new = rw (is, new) (record {
   phase = refl;
   used = refl;
   ended = tt;
+  begun = tt;
 })
   where
     empty : (b : List ℕ) → length b ≡ 0 → b ≡ []
@@ -131,6 +140,7 @@ ends_good t now row begun some all is new =
       phase = phase_answer (entry t.order t.begun);
       used = refl;
       ended = is_answer (entry t.order t.begun);
+      begun = begun_answer (entry t.order t.begun) _ refl;
     })
 
 pub ends_short : (t now : ReaderState) (used : ℕ) (row : Row) → used ≡ t.used → IsInRow t
@@ -145,6 +155,7 @@ ends_short t now used row at begun some part is new = rw (is, new) (record {
   phase = refl;
   used = refl;
   ended = tt;
+  begun = tt;
 })
 
 -- a reader has room for what is wanted

@@ -4,7 +4,7 @@ use Rattle.pbs_base.specs.declared.entry.Entry.{Entry}
 use Rattle.pbs_base.specs.declared.entry.Entry.TheVariants as entry
 use Rattle.trace_reader.specs.Traces.{rows}
 use Rattle.trace_reader.specs.Headers.{NoHeader, Trace, Traced, headed, header_order}
-use Rattle.trace_reader.specs.States.{ReaderState, head_phase, rows_from, row_then, row_phase}
+use Rattle.trace_reader.specs.States.{BegunAfter, ReaderState, head_phase, rows_from, row_then, row_phase}
 use Rattle.trace_reader.specs.declared.answers.Head.{Head}
 use Rattle.trace_reader.specs.declared.answers.Head.TheVariants as head
 use Rattle.trace_reader.specs.declared.answers.Row.{Row}
@@ -30,6 +30,7 @@ pub record TakesByte (before now : ReaderState) (c : ℕ) (row : Row) : Type 0 w
   pub order : now.order ≡ before.order
   pub phase : now.phase ≡ row_phase row
   pub byte : ByteFor row before now c
+  pub begun : BegunAfter row now
 
 abbrev pub IsAnswer : Row → Type 0
 IsAnswer answer.More = ⊥
@@ -46,6 +47,7 @@ pub record EndsText (before now : ReaderState) (row : Row) : Type 0 where
   pub phase : now.phase ≡ row_phase row
   pub used : now.used ≡ before.used
   pub ended : IsAnswer row
+  pub begun : BegunAfter row now
 
 -- what was answered to the header's line, and the rows of the lines behind it
 abbrev pub line_then : Head → ReaderState → List (List ℕ) → Trace

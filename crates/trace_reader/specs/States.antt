@@ -71,12 +71,20 @@ head_phase head.More = phase.Header
 head_phase head.Ready = phase.Rows
 head_phase (head.Refused refusal) = phase.Done
 
+-- the begun line of a row
+pub record IsInRow (s : ReaderState) : Type 0 where
+  pub used : length s.begun ≤ s.used
+  pub within : s.used ≤ 67108864
+  pub right : right (length s.order) s.begun ≡ length s.begun
+  pub few : length s.order ≤ 64
+  pub ports : ArePorts s.order
+
 -- no line was ended, more bytes are to come, and no rule is broken yet
 pub record IsMore (now : ReaderState) (piece : List ℕ) (last : Bool) : Type 0 where
   pub open_line : has_newline piece ≡ false
   pub goes_on : last ≡ false
   pub within : now.used ≤ 67108864
-  pub good : now.phase ≡ phase.Rows → right (length now.order) now.begun ≡ length now.begun
+  pub row : now.phase ≡ phase.Rows → IsInRow now
 
 -- where the bytes are used up to the end of the line, or of the piece
 pub record IsUsed (before now : ReaderState) (piece : List ℕ) (used : ℕ) : Type 0 where
@@ -96,6 +104,26 @@ UsedByHead head.More before now piece used last = IsUsed before now piece used �
 UsedByHead head.Ready before now piece used last = IsUsed before now piece used
 UsedByHead (head.Refused refusal) before now piece used last = Unit {0}
 
+-- no line is begun behind the end of a row
+abbrev pub BegunAfter : Row → ReaderState → Type 0
+BegunAfter answer.More now = Unit {0}
+BegunAfter (answer.Vector x) now = now.begun ≡ []
+BegunAfter answer.Reset now = now.begun ≡ []
+BegunAfter answer.End now = Unit {0}
+BegunAfter (answer.Refused refusal) now = Unit {0}
+
+-- a line was ended by a newline of the piece, or by the end of the text
+pub record IsLineEnd (now : ReaderState) (piece : List ℕ) (last : Bool) : Type 0 where
+  pub begun : now.begun ≡ []
+  pub newline : last ≡ false → has_newline piece ≡ true
+
+abbrev pub EndsLine : Row → ReaderState → List ℕ → Bool → Type 0
+EndsLine answer.More now piece last = Unit {0}
+EndsLine (answer.Vector x) now piece last = IsLineEnd now piece last
+EndsLine answer.Reset now piece last = IsLineEnd now piece last
+EndsLine answer.End now piece last = Unit {0}
+EndsLine (answer.Refused refusal) now piece last = Unit {0}
+
 -- a call read a row, or a part of it
 pub record ReadsRow (before now : ReaderState) (piece : List ℕ) (last : Bool) (used : ℕ) (row : Row) : Type 0 where
   pub gives : (rest : List ℕ) → IsRest last rest
@@ -105,15 +133,17 @@ pub record ReadsRow (before now : ReaderState) (piece : List ℕ) (last : Bool) 
   pub phase : now.phase ≡ row_phase row
   pub within : used ≤ length piece
   pub bytes : UsedByRow row before now piece used last
+  pub line : EndsLine row now piece last
 
 -- a call read the header, or a part of it
-pub record ReadsHead (before now : ReaderState) (piece : List ℕ) (last : Bool) (used : ℕ) (head : Head) : Type 0 where
+pub record ReadsHead (before now : ReaderState) (piece : List ℕ) (last : Bool) (used : ℕ) (found : Head) : Type 0 where
   pub gives : (rest : List ℕ) → IsRest last rest
-      → trace_from before (piece ++ rest) ≡ head_then head now (drop used piece ++ rest)
+      → trace_from before (piece ++ rest) ≡ head_then found now (drop used piece ++ rest)
   pub ports : now.ports ≡ before.ports
-  pub phase : now.phase ≡ head_phase head
+  pub phase : now.phase ≡ head_phase found
   pub within : used ≤ length piece
-  pub bytes : UsedByHead head before now piece used last
+  pub bytes : UsedByHead found before now piece used last
+  pub line : found ≡ head.Ready → IsLineEnd now piece last
 
 -- ---- what holds of every reader
 
@@ -123,14 +153,6 @@ pub record IsInHeader (s : ReaderState) : Type 0 where
   pub order : s.order ≡ []
   pub within : s.used ≤ 67108864
   pub open_line : has_newline s.begun ≡ false
-
--- the begun line of a row
-pub record IsInRow (s : ReaderState) : Type 0 where
-  pub used : length s.begun ≤ s.used
-  pub within : s.used ≤ 67108864
-  pub right : right (length s.order) s.begun ≡ length s.begun
-  pub few : length s.order ≤ 64
-  pub ports : ArePorts s.order
 
 pub record IsReader (s : ReaderState) (capacity : ℕ) : Type 0 where
   pub ports : length s.ports ≤ 64

@@ -99,6 +99,15 @@ impl<'a> TraceReader<'a> {
         }
     }
 
+    /// How many bytes were used so far: at most 67,108,864 of them as long as no rule is broken.
+    pub fn bytes_used(&self) -> usize
+        ensures value { result ≡ self.now.used }
+        ensures header { self.now.phase ≡ Header → IsInHeader self.now }
+        ensures row { self.now.phase ≡ Rows → IsInRow self.now }
+    {
+        self.used
+    }
+
     // The row isn't ended, and no rule is broken yet.
     fn go_on(&self) -> Row
         requires { self.now.phase ≡ Rows }

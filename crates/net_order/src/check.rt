@@ -1,0 +1,134 @@
+//! Rules 4 to 8, in their order, and the order of the gates.
+ghost use Rattle.std.specs.Prelude.{◌≡◌, ◌<◌, ℕ, List, None, Some, map, length, IfOk, slice_get};
+ghost use Rattle.vlog_text.specs.declared.raw.RawGate.{RawGate as GateItem};
+ghost use Rattle.vlog_text.specs.declared.raw.RawReg.{RawReg as RegItem};
+ghost use Rattle.vlog_text.specs.Raw.{IsRaw};
+ghost use Rattle.vlog_text.specs.Orders.{is_among};
+ghost use Rattle.vlog_text.specs.Words.{target_name};
+ghost use Rattle.vlog_text.specs.Standing.{resolved, the_order};
+ghost use Rattle.vlog_text.specs.Refusing.{first_broken};
+ghost use Rattle.net_order.specs.Queues.{marked};
+ghost use Rattle.net_order.specs.Names.{IsFirsts, KnowsKinds};
+ghost use Rattle.net_order.specs.Ordered.{or_next};
+ghost use Rattle.net_order.specs.Wires.{AreNumbers, capped_gate};
+
+use crate::checks::{check_clock, check_counts, check_taken};
+use crate::driving::check_drivers;
+use crate::firsts::Firsts;
+use crate::kinds::KindTable;
+use crate::naming::check_names;
+use crate::numbers::{number_inputs, number_registers};
+use crate::order::{none_taken, order};
+use crate::wires::Numbers;
+use net_core::{Gate, Gates};
+use pbs_base::{Memory, Refusal};
+use std::alloc::Global;
+use vlog_text::RawNetlist;
+
+/// A raw netlist with what its names stand for, its gates by their places in the text, their order, and the first
+/// broken rule.
+#[derive(Drop)]
+pub struct Checked {
+    pub numbers: Numbers,
+    pub regs: Firsts,
+    pub gates: Gates,
+    pub order: Vec<usize>,
+    pub found: Option<Refusal>,
+}
+
+fn or_next(found: Option<Refusal>, next: Option<Refusal>) -> Option<Refusal>
+    ensures { result ≡ or_next found next }
+{
+    match found {
+        Some(refusal) => Some(refusal),
+        None => next,
+    }
+}
+
+// The gates of the order.
+fn mark_taken(alloc: Global, count: usize, order: &[usize]) -> Result<Vec<bool>, Memory>
+    requires { (i n : ℕ) → slice_get order.now i ≡ Some n → n < count }
+    ensures long { IfOk result (λ taken. length taken.items ≡ count) }
+    ensures taken { IfOk result (λ taken. (n : ℕ) → marked taken.items n ≡ is_among order.now n) }
+{
+    let mut taken = none_taken(alloc, count)?;
+    for gate in order {
+        taken[*gate] = true;
+    }
+    Ok(taken)
+}
+
+fn number_names(
+    alloc: Global,
+    raw: &RawNetlist,
+    kinds: KindTable,
+    gates: Firsts,
+) -> Result<Numbers, Memory>
+    requires kinds { KnowsKinds raw.now.decls kinds }
+    requires gates { IsFirsts (map (λ (g : GateItem). target_name g.target) raw.now.gates) gates }
+    requires few { length raw.now.gates < 4294967295 }
+    ensures { IfOk result (λ numbers. AreNumbers raw.now numbers) }
+{
+    let inputs = number_inputs(alloc, &kinds, raw.ports.as_slice())?;
+    let registers = number_registers(alloc, raw.decls.as_slice())?;
+    Ok(Numbers {
+        kinds,
+        inputs,
+        registers,
+        gates,
+    })
+}
+
+/// Rules 4 to 8, and the order of the gates.
+pub fn check(alloc: Global, raw: &RawNetlist) -> Result<Checked, Memory>
+    requires { IsRaw raw.now }
+    ensures numbers { IfOk result (λ c. AreNumbers raw.now c.numbers) }
+    ensures regs { IfOk result (λ c. IsFirsts (map (λ (r : RegItem). Some r.target) raw.now.regs) c.regs) }
+    ensures gates { IfOk result (λ c.
+        c.gates ≡ map (λ (g : GateItem). capped_gate (resolved raw.now g)) raw.now.gates) }
+    ensures order { IfOk result (λ c. c.order.items ≡ the_order raw.now) }
+    ensures found { IfOk result (λ c. c.found ≡ first_broken raw.now) }
+{
+    let naming = check_names(alloc, raw)?;
+    let driving = check_drivers(alloc, raw, &naming.kinds)?;
+    let (by_name, by_driver) = (naming.found, driving.found);
+    let numbers = number_names(alloc, raw, naming.kinds, driving.gates)?;
+    let gates = numbers.gates(alloc, raw.gates.as_slice())?;
+    let order = order_text(alloc, raw, gates.as_slice())?;
+    let taken = mark_taken(alloc, gates.len(), &order)?;
+    let late = check_taken(raw.gates.as_slice(), &taken);
+    let clock = check_clock(alloc, raw, &numbers.kinds)?;
+    let counts = check_counts(raw);
+    let found = first_of(by_name, by_driver, late, clock, counts);
+    Ok(Checked {
+        numbers,
+        regs: driving.regs,
+        gates,
+        order,
+        found,
+    })
+}
+
+fn first_of(
+    naming: Option<Refusal>,
+    driving: Option<Refusal>,
+    late: Option<Refusal>,
+    clock: Option<Refusal>,
+    counts: Option<Refusal>,
+) -> Option<Refusal>
+    ensures { result ≡ or_next (or_next (or_next (or_next naming driving) late) clock) counts }
+{
+    or_next(
+        or_next(or_next(or_next(naming, driving), late), clock),
+        counts,
+    )
+}
+
+fn order_text(alloc: Global, raw: &RawNetlist, gates: &[Gate]) -> Result<Vec<usize>, Memory>
+    requires raw { IsRaw raw.now }
+    requires gates { gates.now ≡ map (λ (g : GateItem). capped_gate (resolved raw.now g)) raw.now.gates }
+    ensures order { IfOk result (λ order. order.items ≡ the_order raw.now) }
+    ensures there { IfOk result (λ order. (i n : ℕ) → slice_get order.items i ≡ Some n → n < length gates.now) }
+{
+    Ok(order(alloc, gates)?)
+}

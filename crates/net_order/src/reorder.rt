@@ -1,0 +1,76 @@
+// Gates in another order, with the pins renumbered.
+
+ghost use Rattle.std.specs.Prelude.{◌≡◌, ℕ, ◌<◌, ◌^◌, length, map, replicate, IfOk, slice_get, slice_index, Some};
+ghost use Rattle.net_order.specs.Taking.{AllNamed};
+ghost use Rattle.net_order.specs.Moves.{place_from, renumbered, moved, reordered};
+
+use net_core::{Gate, Gates, Pins, Wire};
+use pbs_base::Memory;
+use std::alloc::Global;
+
+// The place of each gate in the order; 0 where it has none.
+fn places(alloc: Global, count: usize, order: &[usize]) -> Result<Vec<u32>, Memory>
+    requires there { (i n : ℕ) → slice_get order.now i ≡ Some n → n < count }
+    requires few { length order.now < 2 ^ 32 }
+    ensures long { IfOk result (λ places. length places.items ≡ count) }
+    ensures places { IfOk result (λ places. (n : ℕ) → n < count
+        → slice_index places.items n ≡ place_from 0 order.now n) }
+{
+    let mut places = zeros(alloc, count)?;
+    let mut k = order.len();
+    while k > 0 {
+        k -= 1;
+        places[order[k]] = k as u32;
+    }
+    Ok(places)
+}
+
+fn zeros(alloc: Global, count: usize) -> Result<Vec<u32>, Memory>
+    ensures { IfOk result (λ zeros. zeros.items ≡ replicate count 0) }
+{
+    let mut zeros = Vec::new(alloc);
+    for _ in 0..count {
+        zeros.push(0)?;
+    }
+    Ok(zeros)
+}
+
+fn renumber(wire: Wire, places: &[u32]) -> Wire
+    requires { (m : ℕ) → wire ≡ Wire.Gate m → m < length places.now }
+    ensures { result ≡ renumbered (slice_index places.now) wire }
+{
+    match wire {
+        Wire::Gate(gate) => Wire::Gate(places[gate as usize]),
+        other => other,
+    }
+}
+
+fn move_gate(alloc: Global, gate: &Gate, places: &[u32]) -> Result<Gate, Memory>
+    requires { (i m : ℕ) → slice_get gate.now.pins i ≡ Some (Wire.Gate m) → m < length places.now }
+    ensures { IfOk result (λ new. new ≡ moved (slice_index places.now) gate.now) }
+{
+    let mut pins = Pins::new(alloc);
+    for pin in gate.pins.as_slice() {
+        pins.push(renumber(*pin, places))?;
+    }
+    Ok(Gate {
+        kind: gate.kind,
+        pins,
+    })
+}
+
+/// The gates of the order, each pin with its gate's new number.
+pub fn reorder(alloc: Global, gates: &[Gate], order: &[usize]) -> Result<Gates, Memory>
+    requires named { AllNamed (length gates.now) gates.now }
+    requires there { (i n : ℕ) → slice_get order.now i ≡ Some n → n < length gates.now }
+    requires few { length order.now < 2 ^ 32 }
+    ensures { IfOk result (λ new. new ≡ reordered gates.now order.now) }
+{
+    let places = places(alloc, gates.len(), order)?;
+    let mut new = Gates::new(alloc);
+    for gate in order {
+        let next = move_gate(alloc, &gates[*gate], &places)?;
+        new.push(next)?;
+    }
+    Ok(new)
+}

@@ -1,0 +1,15 @@
+mod Pieces
+mod Lists
+mod Names
+mod Shapes
+mod Lines
+mod Readable
+mod Phrases
+mod Apart
+mod Known
+mod Ordered
+mod Nets
+mod Rules
+mod Whole
+mod Lengths
+mod Examples

@@ -1,0 +1,59 @@
+-- What is written for a netlist is read as the same netlist.
+use Rattle.std.proofs.Common.{◌≡◌, ℕ, ◌≤◌, List, length, Ok, sym, ap, ◌∙◌, arith}
+use Rattle.std.specs.List.{range_with_len}
+use Rattle.net_core.specs.declared.gate.Gate as gate
+use Rattle.net_core.specs.Circuits.{Circuit, IsCircuit, HasItsPins}
+use Rattle.net_order.specs.Laws.{AreEarlier}
+use Rattle.vlog_text.specs.declared.token.Token.{Token}
+use Rattle.vlog_text.specs.Emitted.{emitted}
+use Rattle.vlog_text.specs.Grammar.{items_depth}
+use Rattle.vlog_text.specs.Lexing.{tokens}
+use Rattle.vlog_text.specs.Orders.{order_of, reordered}
+use Rattle.vlog_text.specs.PortNames.{HasPortNames}
+use Rattle.vlog_text.specs.Reading.{IsShort, StandsFor}
+use Rattle.vlog_text.specs.Trees.{raw_of}
+use Rattle.vlog_round.proofs.Lists.{Each, each_from}
+use Rattle.vlog_round.proofs.Pieces.{text, placed, lex-text, Stands, stands}
+use Rattle.vlog_round.proofs.Lines.{all_pieces, text-all}
+use Rattle.vlog_round.proofs.Readable.{can-be-written, all-read}
+use Rattle.vlog_round.proofs.Phrases.{finds_text}
+use Rattle.vlog_round.proofs.Nets.{are-earlier, order-is, net-is}
+use Rattle.vlog_round.proofs.Rules.{unbroken}
+
+-- gates whose pins name earlier gates keep their order
+abbrev pub OrderIsKept : Type 0
+OrderIsKept = (gates : List gate.Gate) → AreEarlier gates → order_of gates ≡ range_with_len 0 (length gates)
+
+abbrev pub GatesAreKept : Type 0
+GatesAreKept = (gates : List gate.Gate) → AreEarlier gates → reordered gates (order_of gates) ≡ gates
+
+shallow : (n : ℕ) → n ≡ 0 → n ≤ 64
+shallow n e = omega arith
+
+pub written_is_read : OrderIsKept → GatesAreKept → (c : Circuit) → IsCircuit c → HasPortNames c → IsShort (emitted c)
+    → StandsFor (emitted c) c
+written_is_read kept stay c good names short =
+    let bytes : List ℕ = emitted c in
+    let ts : List Token = placed 0 (all_pieces c) in
+    let same : text (all_pieces c) ≡ bytes = text-all c in
+    let found : tokens bytes ≡ Ok ts =
+    ap tokens (sym same) ∙ lex-text (all_pieces c) 0 (all-read c (can-be-written c good names)) in
+    let there : Stands bytes (all_pieces c) ts = stands bytes (all_pieces c) 0 (sym same) in
+    let pins : Each (λ (g : gate.Gate). HasItsPins g.kind (length g.pins)) c.gates =
+    each_from (λ (g : gate.Gate). HasItsPins g.kind (length g.pins)) c.gates
+    (λ n g at. (good.gates_fit n g at).count) in
+    let x = finds_text bytes c pins ts there in
+    let order = kept c.gates (are-earlier c (raw_of bytes x.phrase) x.raw_is good names) in
+    let gates = stay c.gates (are-earlier c (raw_of bytes x.phrase) x.raw_is good names) in
+    record {
+      phrase = x.phrase;
+      is_read = record {
+        short = short;
+        found = ts;
+        found_is = found;
+        text = record { tokens = x.tokens_are; shallow = shallow (items_depth x.phrase.items) x.depth_is };
+      };
+      unbroken = unbroken c (raw_of bytes x.phrase) x.raw_is good names
+          (order-is c (raw_of bytes x.phrase) x.raw_is good names order gates);
+      net_is = sym (net-is c (raw_of bytes x.phrase) x.raw_is good names order gates);
+    }
