@@ -18,3 +18,8 @@ pub mod Standings
 pub mod Earliest
 pub mod Marking
 pub mod TextGates
+pub mod NameLists
+pub mod Unbroken
+pub mod Wired
+pub mod Counts
+pub mod Circuit

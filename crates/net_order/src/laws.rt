@@ -5,6 +5,9 @@ ghost use Rattle.std.specs.List.{range_with_len};
 ghost use Rattle.net_core.specs.declared.gate.Gate.{Gate as GateValue};
 ghost use Rattle.vlog_text.specs.Orders.{first_from, order_of, reordered};
 ghost use Rattle.vlog_text.specs.declared.raw.RawNetlist.{RawNetlist as Net};
+ghost use Rattle.vlog_text.specs.Raw.{IsRaw};
+ghost use Rattle.vlog_text.specs.Standing.{net_of};
+ghost use Rattle.net_core.specs.Circuits.{IsCircuit};
 ghost use Rattle.pbs_base.specs.declared.refusal.Refusal.{Refusal as Refused};
 ghost use Rattle.vlog_text.specs.Refusing.{broken, first_broken};
 ghost use Rattle.net_order.specs.Laws.{AreEarlier, GoesOn, IsEarliest};
@@ -33,4 +36,9 @@ pub fn one_order()
 pub fn refused_earliest()
     ensures some { (raw : Net) (r : Refused) → first_broken raw ≡ Some r → IsEarliest (broken raw) r }
     ensures none { (raw : Net) → first_broken raw ≡ None → broken raw ≡ [] }
+{}
+
+/// A raw netlist that breaks none of the rules 4 to 8 stands for a netlist in which all that is named is there.
+pub fn unbroken_is_circuit()
+    ensures { (raw : Net) → IsRaw raw → first_broken raw ≡ None → IsCircuit (net_of raw) }
 {}

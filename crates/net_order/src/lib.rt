@@ -13,7 +13,7 @@ mod naming;
 mod note;
 mod numbers;
 mod order;
-mod reorder;
+pub mod reorder;
 mod rows;
 mod waiting;
 pub mod wires;

@@ -8,8 +8,8 @@ use net_core::{Gate, Gates, Pins, Wire};
 use pbs_base::Memory;
 use std::alloc::Global;
 
-// The place of each gate in the order; 0 where it has none.
-fn places(alloc: Global, count: usize, order: &[usize]) -> Result<Vec<u32>, Memory>
+/// The place of each gate in the order; 0 where it has none.
+pub fn places(alloc: Global, count: usize, order: &[usize]) -> Result<Vec<u32>, Memory>
     requires there { (i n : ℕ) → slice_get order.now i ≡ Some n → n < count }
     requires few { length order.now < 2 ^ 32 }
     ensures long { IfOk result (λ places. length places.items ≡ count) }

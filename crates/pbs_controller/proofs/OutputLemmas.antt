@@ -1,25 +1,29 @@
 -- The ports of a controller, and what its outputs show.
-use Rattle.std.proofs.Common.{◌≡◌, ◌<◌, ◌+◌, true, ℕ, suc, List, [], ◌∷◌, ◌++◌, length, take, map, Some, refl}
-use Rattle.std.proofs.Common.{sym, ap, ◌∙◌, arith, get_or, codes, length-append, length-take, below_more}
+use Rattle.std.proofs.Common.{◌≡◌, ◌<◌, ◌≤◌, ◌+◌, true, false, ℕ, zero, suc, inl, inr, List, [], ◌∷◌, ◌++◌, length}
+use Rattle.std.proofs.Common.{take, map, Some, refl, sym, ap, subst, ◌∙◌, arith, get_or, codes, length-append}
+use Rattle.std.proofs.Common.{length-take, below_more}
 use Rattle.std.specs.Prelude.{slice_get}
 use Rattle.std.proofs.Math.Seq.{get_or-append_seam}
 use Rattle.std.proofs.lemmas.List.{map-append, take_more, get_or_append_left, get_or-take}
+use Rattle.std.proofs.lemmas.Bool.{cases_lt}
 use Rattle.std.proofs.lemmas.Option.{slice_get_within, get_or_from_slice_get, slice_get-get_or}
-use Rattle.std.proofs.lemmas.Option.{slice_get-map}
+use Rattle.std.proofs.lemmas.Option.{slice_get-map, same_Some}
 use Rattle.std.specs.Option.{option_map}
 use Rattle.pbs_base.specs.Words.{AreDifferent}
 use Rattle.net_core.specs.declared.gate.Wire.{Wire}
+use Rattle.net_core.specs.declared.gate.Wire.TheVariants as wire
+use Rattle.net_core.specs.declared.gate.Gate as gate
 use Rattle.net_core.specs.declared.netlist.Output.{Output}
 use Rattle.net_core.specs.Rows.{Row, IsRow, value}
-use Rattle.net_core.specs.Circuits.{Circuit, IsNewName, output_gate, wire_at}
-use Rattle.net_core.specs.Building.{AddsOutput, Keeps}
+use Rattle.net_core.specs.Circuits.{Circuit, IsNewName, output_gate, wire_at, IsThere, Exists, AllThere, IsCircuit}
 use Rattle.net_core.specs.Circuits.{IsBuilt}
-use Rattle.net_core.specs.Runs.{output_value}
+use Rattle.net_core.specs.Building.{AddsOutput, Keeps, HasAll, with_output, buffer_of, gate_input_pins, input_pins}
+use Rattle.net_core.proofs.Pushed.{get_pushed}
 use Rattle.pbs_base.specs.declared.entry.Entry.{Entry}
 use Rattle.pbs_ast.specs.Trees.{Tree, has_no_scope}
 use Rattle.frag_compose.specs.Composes.{Composes, Follows, FollowsAlways, FollowsRow}
 use Rattle.pbs_controller.specs.Ports.{ports_of, output_names}
-use Rattle.pbs_controller.specs.Outputs.{Shows}
+use Rattle.pbs_controller.specs.Outputs.{Shows, ReadsNone, AreUnread, AddedLast}
 use Rattle.pbs_controller.specs.Controllers.{IsController, ShowsRow}
 
 -- ---- one output more
@@ -87,6 +91,68 @@ shows_more old new ws a name w adds shows at =
           ∙ (adds.shows row is ∙ ap (value row) (sym at)));
     }
 
+-- ---- outputs are added last
+
+only_pin : (i r n : ℕ) (w : Wire) → IsThere i r n w → AllThere i r n (w ∷ [])
+only_pin i r n w there = record { each = pin }
+  where
+    pin : (k : ℕ) (v : Wire) → slice_get (w ∷ []) k ≡ Some v → IsThere i r n v
+    pin zero v e = subst (IsThere i r n) (same_Some w v e) there
+    pin (suc k) v e = absurd (cc)
+
+pub none_added : (c : Circuit) → c.outputs ≡ [] → AddedLast c c
+none_added c none = record {
+  driven = λ n o at. let within = slice_get_within c.outputs n o at in absurd (omega (arith, within, ap length none));
+  pins = λ n g at late. let within = slice_get_within c.gates n g at in absurd (omega (arith, within, late));
+}
+
+last_more : (first old : Circuit) (name : List ℕ) (w : Wire) → AddedLast first old → Exists first w
+    → length first.gates ≤ length old.gates → AddedLast first (with_output old name w)
+last_more first old name w added there grown = record {
+  driven = λ n o at. elim (get_pushed old.outputs (record { name = name; gate = length old.gates }) n o at) [
+    | inl before ↦ added.driven n o before
+    | inr (end, same) ↦ omega (arith, grown, ap (λ (x : Output). x.gate) same)
+  ];
+  pins = λ n g at late. elim (get_pushed old.gates (buffer_of w) n g at) [
+    | inl before ↦ added.pins n g before late
+    | inr (end, same) ↦
+        subst (λ (x : gate.Gate). AllThere (length first.inputs) (length first.registers) (length first.gates) x.pins)
+        (sym same) (only_pin (length first.inputs) (length first.registers) (length first.gates) w there)
+  ];
+}
+
+pub one_added : (first old new : Circuit) (name : List ℕ) (w : Wire) → new ≡ with_output old name w
+    → AddedLast first old → Exists first w → length first.gates ≤ length old.gates → AddedLast first new
+one_added first old new name w is added there grown =
+    subst (AddedLast first) (sym is) (last_more first old name w added there grown)
+
+-- a wire that was there before the outputs reads none
+reads_none : (first net : Circuit) (i r n : ℕ) (w : Wire) → AddedLast first net → n ≤ length first.gates
+    → IsThere i r n w → ReadsNone net.outputs w
+reads_none first net i r n w added few there = record {
+  each = λ k o at is. let late = added.driven k o at in let low = gate_below is in omega (arith, late, low, few);
+}
+  where
+    gate_below : {g : ℕ} → w ≡ wire.Gate g → g < n
+    gate_below {g} is = subst (IsThere i r n) is there
+
+pub unread : (first net : Circuit) → AddedLast first net → IsCircuit net → HasAll first net.registers
+    → AreUnread net
+unread first net added right wires = record {
+  pins = λ n g at k w pin. elim (cases_lt n (length first.gates)) [
+    | inl low ↦
+        reads_none first net (length net.inputs) (length net.registers) n w added (omega (arith, low))
+        ((right.gates_fit n g at).there.each k w pin)
+    | inr late ↦
+        reads_none first net (length first.inputs) (length first.registers) (length first.gates) w added
+        (omega arith) ((added.pins n g at late).each k w pin)
+  ];
+  data_wires = λ r w at.
+      reads_none first net (length first.inputs) (length first.registers) (length first.gates) w added (omega arith)
+      (subst (Exists first) (get_or_from_slice_get net.registers r w (wire.Const false) at)
+      (wires.each r (slice_get_within net.registers r w at)));
+}
+
 -- ---- the whole
 
 pub length-ports : (letters : List ℕ) (names : List (List ℕ)) → length (ports_of letters names) ≡ length names
@@ -103,6 +169,7 @@ shows_row main m net ws v rows k shows row follows = record {
 -- what was composed, and what outputs were added to it
 pub record Built (main : Tree) (m : ℕ) (empty composed net : Circuit) (ws : List Wire) : Type 0 where
   pub none : empty.gates ≡ []
+  pub bare : empty.registers ≡ []
   pub circuit : Composes empty composed main m ws
   pub runs : (n : Circuit) → Keeps composed n → Follows n ws main m
   pub scopeless : (n : Circuit) → Keeps composed n → has_no_scope main ≡ true → FollowsAlways n ws main m
@@ -110,6 +177,9 @@ pub record Built (main : Tree) (m : ℕ) (empty composed net : Circuit) (ws : Li
   pub registers : net.registers ≡ composed.registers
   pub gates : length net.gates ≡ length composed.gates + m
   pub shows : Shows net ws m
+  pub pins : gate_input_pins net.gates ≤ gate_input_pins composed.gates
+  pub last : AddedLast composed net
+  pub right : IsCircuit net
 
 pub is_controller : (inputs actions : List (List ℕ)) (main : Tree) (empty composed net : Circuit) (ws : List Wire)
     → Built main (length actions) empty composed net ws → IsBuilt net.gates
@@ -121,6 +191,16 @@ is_controller inputs actions main empty composed net ws built plain in_ports out
   registers = ap length built.registers ∙ built.circuit.places;
   few = omega (arith, built.gates, built.circuit.few, ap length built.none);
   plain = plain;
+  few_pins = omega (
+    arith,
+    built.pins,
+    ap input_pins built.registers,
+    built.circuit.few_pins,
+    ap gate_input_pins built.none,
+    ap input_pins built.bare,
+  );
+  unread = unread composed net built.last built.right
+      (subst (HasAll composed) (sym built.registers) built.circuit.data_wires);
   shows = λ v rows run k le apart.
       shows_row main (length actions) net ws v rows k built.shows (run.each k le)
       ((built.runs net built.keeps).at_row v rows run k le apart);

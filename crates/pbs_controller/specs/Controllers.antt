@@ -3,11 +3,13 @@ use Rattle.std.specs.Prelude.{◌≡◌, ℕ, ◌+◌, ◌*◌, ◌<◌, ◌≤�
 use Rattle.pbs_base.specs.declared.entry.Entry.{Entry}
 use Rattle.pbs_base.specs.Entries.{since}
 use Rattle.pbs_ast.specs.Trees.{Tree, has_no_scope}
-use Rattle.pbs_ast.specs.Sound.{node_count, place_count}
+use Rattle.pbs_ast.specs.Sound.{node_count, place_count, tree_input_leaves}
 use Rattle.pbs_derive.specs.Derivations.{stands, fires, NoOverlapBelow}
 use Rattle.net_core.specs.Rows.{Row}
 use Rattle.net_core.specs.Circuits.{Circuit, IsBuilt}
+use Rattle.net_core.specs.Building.{gate_input_pins, input_pins}
 use Rattle.net_core.specs.Runs.{IsRun, next_of, output_value}
+use Rattle.pbs_controller.specs.Outputs.{AreUnread}
 use Rattle.pbs_controller.specs.Ports.{ports_of, output_names}
 
 -- over the vectors since the last reset: after row k register p tells whether place p stands, and in row k output a
@@ -26,6 +28,10 @@ pub record IsController (inputs actions : List (List ℕ)) (main : Tree) (net : 
   pub registers : length net.registers ≡ place_count main
   pub few : length net.gates ≤ 20 * node_count main + length actions
   pub plain : IsBuilt net.gates
+  -- pins that are inputs, registers' data wires counted: at most one for each input that stands in a term of the tree
+  pub few_pins : gate_input_pins net.gates + input_pins net.registers ≤ tree_input_leaves main
+  -- outputs are only shown
+  pub unread : AreUnread net
   -- in every run from reset, where no scope was begun again while it was live since the last reset
   pub shows : (v : List Entry) (rows : ℕ → Row) → IsRun net v rows → (k : ℕ) → k ≤ length v
       → NoOverlapBelow main (since v k) (length (since v k)) → ShowsRow net main (length actions) v rows k

@@ -2,9 +2,10 @@
 ghost use Rattle.std.specs.Prelude.{◌≡◌, ◌≤◌, ◌<◌, ◌+◌, [], length, IfOk, OnOk, IsTrue};
 ghost use Rattle.pbs_ast.specs.Trees.{tree_of};
 ghost use Rattle.pbs_ast.specs.Sound.{actions_below, inputs_below};
-ghost use Rattle.net_core.specs.Building.{HasAll, Keeps};
+ghost use Rattle.net_core.specs.Building.{HasAll, Keeps, gate_input_pins};
+ghost use Rattle.net_core.specs.Circuits.{IsBuilt, IsCircuit};
 ghost use Rattle.pbs_controller.specs.Controllers.{IsController};
-ghost use Rattle.pbs_controller.specs.Outputs.{Shows};
+ghost use Rattle.pbs_controller.specs.Outputs.{AddedLast, Shows};
 ghost use Rattle.pbs_controller.specs.Ports.{output_names};
 
 use crate::ports::prefixed;
@@ -33,7 +34,18 @@ pub fn build_controller(
     let mut b = Builder::new(alloc, in_ports);
     let composed = compose(&mut b, main, actions.len() as u8)?;
     add_outputs(&mut b, &out_ports, &composed.fires)?;
-    Ok(b.finish())
+    Ok(finished(b))
+}
+
+// What was built, of which holds what holds of every netlist.
+fn finished(b: Builder) -> Netlist
+    ensures netlist { result ≡ b }
+    ensures built { IsBuilt result.gates }
+    ensures right { IsCircuit result }
+{
+    let net = b.finish();
+    net.gates();
+    net
 }
 
 // One output for each name.
@@ -48,6 +60,8 @@ fn add_outputs(b: &mut Builder, names: &Names, wires: &Wires) -> Result<(), Memo
     ensures gates { OnOk result (length b.new.gates ≡ length b.old.gates + length names.now) }
     ensures names { OnOk result (output_names b.new ≡ names.now) }
     ensures shows { OnOk result (Shows b.new wires.now (length names.now)) }
+    ensures pins { OnOk result (gate_input_pins b.new.gates ≤ gate_input_pins b.old.gates) }
+    ensures last { OnOk result (AddedLast b.old b.new) }
 {
     let alloc = b.allocator();
     for a in 0..names.len() {

@@ -110,7 +110,7 @@ small_names = record {
 
 small_short : HasShortNames small
 small_short = record {
-  each = λ n w e. each_at (λ w. length w ≤ 66) (port_names small) n w (omega arith, (omega arith, tt)) e;
+  each = λ n w e. each_at (λ w. length w ≤ 68) (port_names small) n w (omega arith, (omega arith, tt)) e;
 }
 
 small_stands : OrderIsKept → GatesAreKept → StandsFor (emitted small) small

@@ -88,7 +88,7 @@ few_driven (o ∷ os) k gs =
 
 -- ---- lines of names
 
-listed-length : (ws : List (List ℕ)) → Each (λ w. length w ≤ 66) ws → length (flat_map listed ws) ≤ 68 * length ws
+listed-length : (ws : List (List ℕ)) → Each (λ w. length w ≤ 68) ws → length (flat_map listed ws) ≤ 70 * length ws
 listed-length [] h = omega arith
 listed-length (w ∷ ws) h =
     let e = length-append (listed w) (flat_map listed ws) in
@@ -99,8 +99,8 @@ listed-length (w ∷ ws) h =
 declared-is : (word name : List ℕ) → length (declared word name) ≡ length word + 1 + length name + 2
 declared-is word name = simp length-append
 
-declared-length : (word : List ℕ) (ws : List (List ℕ)) → length word ≤ 6 → Each (λ w. length w ≤ 66) ws
-    → length (flat_map (declared word) ws) ≤ 75 * length ws
+declared-length : (word : List ℕ) (ws : List (List ℕ)) → length word ≤ 6 → Each (λ w. length w ≤ 68) ws
+    → length (flat_map (declared word) ws) ≤ 77 * length ws
 declared-length word [] short h = omega arith
 declared-length word (w ∷ ws) short h =
     let e = length-append (declared word w) (flat_map (declared word) ws) in
@@ -136,7 +136,7 @@ four m i o e = simp length-append
 module _ (c : Circuit) (good : IsCircuit c) (short : HasShortNames c) (few_gates : length c.gates ≤ 1185792)
     (few_regs : length c.registers ≤ 4160) where
   abbrev IsBrief : List ℕ → Type 0
-  IsBrief w = length w ≤ 66
+  IsBrief w = length w ≤ 68
 
   ports-short : Each IsBrief (port_names c)
   ports-short = each_from IsBrief (port_names c) short.each
@@ -147,27 +147,27 @@ module _ (c : Circuit) (good : IsCircuit c) (short : HasShortNames c) (few_gates
   outputs-short : Each IsBrief (output_names c)
   outputs-short = each_right IsBrief c.inputs (output_names c) ports-short
 
-  target-length : (n : ℕ) → n < 1185792 → length (gate_name c n) ≤ 8 + 66 * output_pin (driven c n)
+  target-length : (n : ℕ) → n < 1185792 → length (gate_name c n) ≤ 8 + 68 * output_pin (driven c n)
   target-length n low = by (driven c n) refl
     where
-      by : (o : Option Output) → driven c n ≡ o → length (target_text o n) ≤ 8 + 66 * output_pin o
+      by : (o : Option Output) → driven c n ≡ o → length (target_text o n) ≤ 8 + 68 * output_pin o
       by (Some o) e =
           let d = found-driven c.outputs n o e in
-          let most = each_at (λ (o : Output). length o.name ≤ 66) c.outputs d.place o
+          let most = each_at (λ (o : Output). length o.name ≤ 68) c.outputs d.place o
           (each_mapped IsBrief (λ (o : Output). o.name) c.outputs outputs-short) d.there in
           omega arith
       by None e = let most = short_number n (omega arith) in omega arith
 
   -- a target, and the line of its wire
   wire-length : (n : ℕ) → n < 1185792
-      → length (wire_line (driven c n) n) + length (gate_name c n) ≤ 23 + 66 * output_pin (driven c n)
+      → length (wire_line (driven c n) n) + length (gate_name c n) ≤ 23 + 68 * output_pin (driven c n)
   wire-length n low = by (driven c n) refl
     where
       by : (o : Option Output) → driven c n ≡ o
-          → length (wire_line o n) + length (target_text o n) ≤ 23 + 66 * output_pin o
+          → length (wire_line o n) + length (target_text o n) ≤ 23 + 68 * output_pin o
       by (Some o) e =
           let d = found-driven c.outputs n o e in
-          let most = each_at (λ (o : Output). length o.name ≤ 66) c.outputs d.place o
+          let most = each_at (λ (o : Output). length o.name ≤ 68) c.outputs d.place o
           (each_mapped IsBrief (λ (o : Output). o.name) c.outputs outputs-short) d.there in
           omega arith
       by None e =
@@ -176,7 +176,7 @@ module _ (c : Circuit) (good : IsCircuit c) (short : HasShortNames c) (few_gates
           omega arith
 
   operand-length : (gates : ℕ) (w : Wire) → gates ≤ length c.gates
-      → IsThere (length c.inputs) (length c.registers) gates w → length (operand_text c w) ≤ 8 + 66 * named_pin c w
+      → IsThere (length c.inputs) (length c.registers) gates w → length (operand_text c w) ≤ 8 + 68 * named_pin c w
   operand-length gates (wire.Const false) few h = omega arith
   operand-length gates (wire.Const true) few h = omega arith
   operand-length gates wire.Reset few h = omega arith
@@ -188,10 +188,10 @@ module _ (c : Circuit) (good : IsCircuit c) (short : HasShortNames c) (few_gates
   operand-length gates (wire.Gate n) few h = target-length n (omega arith)
 
   abbrev OperandIsShort : Wire → Type 0
-  OperandIsShort w = length (operand_text c w) ≤ 8 + 66 * named_pin c w
+  OperandIsShort w = length (operand_text c w) ≤ 8 + 68 * named_pin c w
 
   pins-length : (ws : List Wire) → Each OperandIsShort ws
-      → length (flat_map (λ w. listed (operand_text c w)) ws) ≤ 10 * length ws + 66 * list_named_pins c ws
+      → length (flat_map (λ w. listed (operand_text c w)) ws) ≤ 10 * length ws + 68 * list_named_pins c ws
   pins-length [] h = omega arith
   pins-length (w ∷ ws) h =
       let e = length-append (listed (operand_text c w)) (flat_map (λ w. listed (operand_text c w)) ws) in
@@ -201,7 +201,7 @@ module _ (c : Circuit) (good : IsCircuit c) (short : HasShortNames c) (few_gates
 
   gate-length : (n : ℕ) (g : gate.Gate) → n < 1185792 → IsPlain g → Each OperandIsShort g.pins
       → length (wire_line (driven c n) n) + length (gate_line c n g)
-      ≤ 51 + 66 * output_pin (driven c n) + 66 * list_named_pins c g.pins
+      ≤ 51 + 68 * output_pin (driven c n) + 68 * list_named_pins c g.pins
   gate-length n g low plain h =
       let word = plain-kind g.kind plain.kind in
       let two = plain.pins in
@@ -216,7 +216,7 @@ module _ (c : Circuit) (good : IsCircuit c) (short : HasShortNames c) (few_gates
   gates-length : (k : ℕ) (gs : List gate.Gate) → k + length gs ≤ 1185792
       → Each (λ (g : gate.Gate). IsPlain g × Each OperandIsShort g.pins) gs
       → length (wires_from k gs) + length (numbered (gate_line c) k gs)
-      ≤ 51 * length gs + 66 * output_pins c.outputs k gs + 66 * gate_named_pins c gs
+      ≤ 51 * length gs + 68 * output_pins c.outputs k gs + 68 * gate_named_pins c gs
   gates-length k [] few h = omega arith
   gates-length k (g ∷ gs) few h =
       let e = length-append (wire_line (driven c k) k) (wires_from (k + 1) gs) in
@@ -229,7 +229,7 @@ module _ (c : Circuit) (good : IsCircuit c) (short : HasShortNames c) (few_gates
   regs_from k ws = numbered (λ n (w : Wire). declared (codes "reg") (reg_name n)) k ws
 
   regs-length : (k : ℕ) (ws : List Wire) → k + length ws ≤ 4160 → Each OperandIsShort ws
-      → length (regs_from k ws) + length (numbered (always_line c) k ws) ≤ 58 * length ws + 66 * list_named_pins c ws
+      → length (regs_from k ws) + length (numbered (always_line c) k ws) ≤ 58 * length ws + 68 * list_named_pins c ws
   regs-length k [] few h = omega arith
   regs-length k (w ∷ ws) few h =
       let number = short_number k (omega arith) in
@@ -255,7 +255,7 @@ module _ (c : Circuit) (good : IsCircuit c) (short : HasShortNames c) (few_gates
       each_from OperandIsShort c.registers
       (λ i w e. operand-length (length c.gates) w (omega arith) (good.data_there.each i w e))
 
-  header-length : length (module_line c) + length (input_lines c) + length (output_lines c) ≤ 27501
+  header-length : length (module_line c) + length (input_lines c) + length (output_lines c) ≤ 28269
   header-length =
       let inputs = good.inputs_few in
       let outputs = good.outputs_few in

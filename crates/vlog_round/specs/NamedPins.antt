@@ -32,6 +32,6 @@ gate_named_pins c (g ∷ gs) = list_named_pins c g.pins + gate_named_pins c gs
 abbrev pub named_pins : Circuit → ℕ
 named_pins c = gate_named_pins c c.gates + list_named_pins c c.registers
 
--- each port has a name of at most 66 bytes
+-- each port has a name of at most 68 bytes
 pub record HasShortNames (c : Circuit) : Type 0 where
-  pub each : (n : ℕ) (name : List ℕ) → slice_get (port_names c) n ≡ Some name → length name ≤ 66
+  pub each : (n : ℕ) (name : List ℕ) → slice_get (port_names c) n ≡ Some name → length name ≤ 68

@@ -1,0 +1,5 @@
+pub mod Picking
+pub mod Different
+pub mod Capping
+pub mod Placed
+pub mod Parts

@@ -1,0 +1,10 @@
+pub mod Edges
+pub mod Walks
+pub mod Rounds
+pub mod ByNumber
+pub mod Listed
+pub mod Effective
+pub mod Counting
+pub mod Ending
+pub mod Found
+pub mod Codes

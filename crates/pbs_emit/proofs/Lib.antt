@@ -1,0 +1,7 @@
+mod Lists
+mod Found
+mod Declared
+mod Counted
+mod Ports
+mod Pins
+mod Emitting

@@ -1,0 +1,15 @@
+pub mod Leaves
+pub mod Around
+pub mod Numbers
+pub mod Laminar
+pub mod Stepping
+pub mod Joints
+pub mod Work
+pub mod Searching
+pub mod Least
+pub mod Vectors
+pub mod Pigeonhole
+pub mod JointLemmas
+pub mod Plans
+pub mod Verdict
+pub mod Spans

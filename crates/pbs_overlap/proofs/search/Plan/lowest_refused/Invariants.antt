@@ -1,0 +1,6 @@
+use Rattle.pbs_overlap.specs.Search.{Between}
+use Rattle.pbs_overlap.specs.Lowest.{IsLowest, RefusesWith}
+use Rattle.pbs_overlap.proofs.search.Plan.lowest_refused.Given as goal
+
+abbrev pub invariant-loop-j : goal.invariant-loop-j
+invariant-loop-j l = IsLowest (Between 0 l.j (RefusesWith l.self l.reached)) l.lowest

@@ -1,0 +1,6 @@
+use Rattle.pbs_overlap.specs.Search.{Between}
+use Rattle.pbs_overlap.specs.Lowest.{IsLowest, Refuses}
+use Rattle.pbs_overlap.proofs.search.Plan.refused_with.Given as goal
+
+abbrev pub invariant-loop-i : goal.invariant-loop-i
+invariant-loop-i l = IsLowest (Between 0 l.i (Refuses l.self l.reached l.j)) l.lowest

@@ -1,0 +1,24 @@
+// How the check of the overlap rule fails.
+ghost use Rattle.std.specs.Prelude.{◌≡◌};
+ghost use Rattle.pbs_overlap.specs.declared.fail.OverlapFail.TheVariants as variants;
+
+use pbs_base::Span;
+use thiserror::Error;
+
+/// Why a tree isn't accepted.
+#[derive(Clone, Copy, Debug, PartialEq, Eq, Error)]
+pub enum OverlapFail {
+    /// The lowest scope that may be begun while it is live, and its span.
+    #[error("a scope may be begun while it is live")]
+    Scope(u32, Span),
+    #[error("no memory was found")]
+    Memory,
+}
+
+impl From<pbs_base::Memory> for OverlapFail {
+    ghost from_gives = { λ _ e. e ≡ variants.Memory };
+
+    fn from(_error: pbs_base::Memory) -> OverlapFail {
+        OverlapFail::Memory
+    }
+}
