@@ -35,7 +35,7 @@ module _ (raw : RawNetlist) (r : IsRaw raw) (u : Unbroken raw) where
   from_gate : (n : ℕ) (g : gate.Gate) → slice_get (reordered (text_gates raw) (the_order raw)) n ≡ Some g → FromGate g
   from_gate n g at =
       let k = filter_map_has (λ n. option_map (moved (the_order raw)) (slice_get (text_gates raw) n)) (the_order raw) g
-          (record { place = n; is = at }) in
+      (record { place = n; is = at }) in
       go k.0 (slice_get (text_gates raw) k.0) refl k.2
     where
       go : (k : ℕ) (o : Option gate.Gate) → slice_get (text_gates raw) k ≡ o → option_map (moved (the_order raw)) o ≡ Some g → FromGate g
@@ -52,7 +52,7 @@ module _ (raw : RawNetlist) (r : IsRaw raw) (u : Unbroken raw) where
         there = record {
           each = λ i w e.
               let new = map_at (renumbered (the_order raw)) (map (pin_wire raw) f.from.pins) i w
-                  (subst (λ (x : gate.Gate). slice_get x.pins i ≡ Some w) f.same e) in
+              (subst (λ (x : gate.Gate). slice_get x.pins i ≡ Some w) f.same e) in
               let old = map_at (pin_wire raw) f.from.pins i new.0 new.1 in
               pin_there raw r u n old.0 w (new.2 ∙ ap (renumbered (the_order raw)) old.2)
               (λ m gate. (earlier_in_order (text_gates raw)).each n g i m at (e ∙ ap (λ v. Some v) gate));

@@ -43,9 +43,9 @@ module _ (raw : RawNetlist) (u : Unbroken raw) where
   few_ports such p test is tests =
       let ports = filter (λ (n : RawName). p n.word) raw.ports in
       let few = length-le_from_is_member nat_list_eq_equiv (map (λ (n : RawName). n.word) ports)
-          (map (λ (n : RawName). n.word) (declared raw test))
-          (differ_distinct (λ (n : RawName). n.word) ports (differ_filter (λ (n : RawName). n.word) (λ (n : RawName). p n.word) raw.ports u.ports_once))
-          (λ q h. member q h) in
+      (map (λ (n : RawName). n.word) (declared raw test))
+      (differ_distinct (λ (n : RawName). n.word) ports (differ_filter (λ (n : RawName). n.word) (λ (n : RawName). p n.word) raw.ports u.ports_once))
+      (λ q h. member q h) in
       omega (arith, few, length-map ports (λ (n : RawName). n.word), length-map (declared raw test) (λ (n : RawName). n.word))
     where
       member : (q : List ℕ) → list_any (bytes_eq q) (map (λ (n : RawName). n.word) (filter (λ (n : RawName). p n.word) raw.ports)) ≡ true
@@ -61,9 +61,9 @@ module _ (raw : RawNetlist) (u : Unbroken raw) where
   pub few_inputs : length (inputs raw) ≤ 64
   few_inputs =
       let few = few_ports is_input (is_plain_input raw) (λ (d : RawDecl). is_input d.kind && not (is_clock d.name.word || is_reset d.name.word))
-          (λ w h. and_left (is_declared raw is_input w) (not (is_clock w || is_reset w)) h)
-          (λ d s h. and_true (is_input d.kind) (not (is_clock d.name.word || is_reset d.name.word)) s
-          (and_right (is_declared raw is_input d.name.word) (not (is_clock d.name.word || is_reset d.name.word)) h)) in
+      (λ w h. and_left (is_declared raw is_input w) (not (is_clock w || is_reset w)) h)
+      (λ d s h. and_true (is_input d.kind) (not (is_clock d.name.word || is_reset d.name.word)) s
+      (and_right (is_declared raw is_input d.name.word) (not (is_clock d.name.word || is_reset d.name.word)) h)) in
       omega (arith, few, u.inputs_few)
 
   pub few_outputs : length (outputs raw) ≤ 128
@@ -74,13 +74,19 @@ module _ (raw : RawNetlist) (u : Unbroken raw) where
   pub few_registers : length (registers raw) ≤ length raw.regs
   few_registers =
       let few = length-le_from_is_member nat_list_eq_equiv (map (λ (d : RawDecl). d.name.word) regs)
-          (map (λ (n : RawName). n.word) (reg_targets raw))
-          (differ_distinct (λ (d : RawDecl). d.name.word) regs
-          (differ_filter (λ (d : RawDecl). d.name.word) (λ (d : RawDecl). is_reg d.kind) raw.decls
-          (differ_map (λ (n : RawName). n.word) (λ (d : RawDecl). d.name) raw.decls u.decls_once)))
-          (λ q h. member q h) in
-      omega (arith, few, length-map regs (λ (d : RawDecl). d.name.word), length-map (reg_targets raw) (λ (n : RawName). n.word),
-      length-map regs (λ (d : RawDecl). d.name), length-map raw.regs (λ (r : RawReg). r.target))
+      (map (λ (n : RawName). n.word) (reg_targets raw))
+      (differ_distinct (λ (d : RawDecl). d.name.word) regs
+      (differ_filter (λ (d : RawDecl). d.name.word) (λ (d : RawDecl). is_reg d.kind) raw.decls
+      (differ_map (λ (n : RawName). n.word) (λ (d : RawDecl). d.name) raw.decls u.decls_once)))
+      (λ q h. member q h) in
+      omega (
+        arith,
+        few,
+        length-map regs (λ (d : RawDecl). d.name.word),
+        length-map (reg_targets raw) (λ (n : RawName). n.word),
+        length-map regs (λ (d : RawDecl). d.name),
+        length-map raw.regs (λ (r : RawReg). r.target),
+      )
     where
       regs : List RawDecl
       regs = filter (λ (d : RawDecl). is_reg d.kind) raw.decls
@@ -91,5 +97,5 @@ module _ (raw : RawNetlist) (u : Unbroken raw) where
           let d = map_any (λ (d : RawDecl). d.name.word) regs q h in
           let has = filter_has (λ (d : RawDecl). is_reg d.kind) raw.decls d.0 d.1 in
           let n = named_has (reg_targets raw) q
-              (register_driven raw u q (has_declared raw is_reg q d.0 has.0 has.1 (sym d.2))) in
+          (register_driven raw u q (has_declared raw is_reg q d.0 has.0 has.1 (sym d.2))) in
           any_map (λ (n : RawName). n.word) (reg_targets raw) q n.0 n.1 (sym n.2)

@@ -171,13 +171,17 @@ place_from p k (x ∷ xs) h = go (p x) refl h (place_from p (k + 1) xs)
     go : (b : Bool) → p x ≡ b → (b || list_any p xs) ≡ true
         → (list_any p xs ≡ true → (i : ℕ) × (position_from p (k + 1) xs ≡ Some (k + 1 + i)) × Stands p xs i)
         → (i : ℕ) × (position_from p k (x ∷ xs) ≡ Some (k + i)) × Stands p (x ∷ xs) i
-    go true e h more =
-        (zero, ap (λ b. cond b (Some k) (position_from p (k + 1) xs)) e ∙ ap (λ n. Some n) (omega arith),
-        record { item = x; is = refl; passes = e })
+    go true e h more = (
+      zero,
+      ap (λ b. cond b (Some k) (position_from p (k + 1) xs)) e ∙ ap (λ n. Some n) (omega arith),
+      record { item = x; is = refl; passes = e },
+    )
     go false e h more =
-        let r = more h in
-        (suc r.0, ap (λ b. cond b (Some k) (position_from p (k + 1) xs)) e ∙ r.1 ∙ ap (λ n. Some n) (omega arith),
-        record { item = r.2.item; is = r.2.is; passes = r.2.passes })
+        let r = more h in (
+          suc r.0,
+          ap (λ b. cond b (Some k) (position_from p (k + 1) xs)) e ∙ r.1 ∙ ap (λ n. Some n) (omega arith),
+          record { item = r.2.item; is = r.2.is; passes = r.2.passes },
+        )
 
 pub first_place : {X : Type 0} (p : X → Bool) (xs : List X) → list_any p xs ≡ true
     → Stands p xs (unwrap_or (position_from p 0 xs) 0)
@@ -216,17 +220,20 @@ differ_filter f p [] d = tt
 differ_filter f p (x ∷ xs) d = go (p x) (differ_filter f p xs d.1)
   where
     go : (b : Bool) → Differ f (filter p xs) → Differ f (cond b (x ∷ filter p xs) (filter p xs))
-    go true more =
-        (not_any (λ y. bytes_eq (f x) (f y)) (filter p xs)
-        (λ y has t. none_has (λ y. bytes_eq (f x) (f y)) xs d.0 y (filter_has p xs y has).0 t), more)
+    go true more = (
+      not_any (λ y. bytes_eq (f x) (f y)) (filter p xs)
+          (λ y has t. none_has (λ y. bytes_eq (f x) (f y)) xs d.0 y (filter_has p xs y has).0 t),
+      more,
+    )
     go false more = more
 
 pub differ_map : {X Y : Type 0} (g : Y → List ℕ) (f : X → Y) (xs : List X) → Differ g (map f xs) → Differ (λ x. g (f x)) xs
 differ_map g f [] d = tt
-differ_map g f (x ∷ xs) d =
-    (not_any (λ y. bytes_eq (g (f x)) (g (f y))) xs
-    (λ y has t. none_has (λ z. bytes_eq (g (f x)) (g z)) (map f xs) d.0 (f y) (has_map f xs y has) t),
-    differ_map g f xs d.1)
+differ_map g f (x ∷ xs) d = (
+  not_any (λ y. bytes_eq (g (f x)) (g (f y))) xs
+      (λ y has t. none_has (λ z. bytes_eq (g (f x)) (g z)) (map f xs) d.0 (f y) (has_map f xs y has) t),
+  differ_map g f xs d.1,
+)
 
 pub differ_distinct : {X : Type 0} (f : X → List ℕ) (xs : List X) → Differ f xs → IsDistinct bytes_eq (map f xs)
 unfolding IsDistinct
@@ -279,8 +286,10 @@ fresh before (x ∷ xs) h n has = elim (has_cases x n xs has) [
 pub once_differ : (before names : List RawName) → repeated before names ≡ [] → Differ (λ (n : RawName). n.word) names
 once_differ before [] h = tt
 once_differ before (x ∷ xs) h =
-    let rest = right_empty (cond (is_named before x.word) (x ∷ []) []) (repeated (before ++ x ∷ []) xs) h in
-    (not_any (λ (y : RawName). bytes_eq x.word y.word) xs
-    (λ y has t. differs (is_named (before ++ x ∷ []) y.word)
-    (has_named (before ++ x ∷ []) y.word x (has_right before (x ∷ []) x (has_first x [])) (same_word x.word y.word t))
-    (fresh (before ++ x ∷ []) xs rest y has)), once_differ (before ++ x ∷ []) xs rest)
+    let rest = right_empty (cond (is_named before x.word) (x ∷ []) []) (repeated (before ++ x ∷ []) xs) h in (
+      not_any (λ (y : RawName). bytes_eq x.word y.word) xs
+          (λ y has t. differs (is_named (before ++ x ∷ []) y.word)
+          (has_named (before ++ x ∷ []) y.word x (has_right before (x ∷ []) x (has_first x [])) (same_word x.word y.word t))
+          (fresh (before ++ x ∷ []) xs rest y has)),
+      once_differ (before ++ x ∷ []) xs rest,
+    )

@@ -105,33 +105,33 @@ all_outputs raw = declared raw (λ d. is_output d.kind)
 pub unbroken_has : (raw : RawNetlist) → first_broken raw ≡ None → Unbroken raw
 unbroken_has raw h =
     let all = all_empty (refusals 4 (rule_4 raw)) (refusals 5 (rule_5 raw)) (refusals 6 (rule_6 raw)) (refusals 7 (rule_7 raw))
-        (refusals 8 (rule_8 raw)) (unrefused_is raw h) in
+    (refusals 8 (rule_8 raw)) (unrefused_is raw h) in
     let r4 = all_empty (repeated [] (decl_names raw)) (repeated [] raw.ports) (undeclared raw) (no_ports raw)
-        (declared raw (is_unlisted raw)) (no_refusals 4 (rule_4 raw) all.first) in
+    (declared raw (is_unlisted raw)) (no_refusals 4 (rule_4 raw) all.first) in
     let r5 = all_empty (repeated [] (gate_targets raw)) (repeated [] (reg_targets raw)) (held raw) (no_regs raw)
-        (declared raw (is_undriven raw)) (no_refusals 5 (rule_5 raw) all.second) in
+    (declared raw (is_undriven raw)) (no_refusals 5 (rule_5 raw) all.second) in
     let r8 = no_refusals 8 (rule_8 raw) all.fifth in
     record {
       decls_once = once_differ [] (decl_names raw) r4.first;
       ports_once = once_differ [] raw.ports r4.second;
       uses_declared = λ n has. is_true (is_named (decl_names raw) n.word)
-        (filter_none (λ (n : RawName). not (is_named (decl_names raw) n.word)) (uses raw) r4.third n has);
+          (filter_none (λ (n : RawName). not (is_named (decl_names raw) n.word)) (uses raw) r4.third n has);
       ports_are = filter_none (λ (n : RawName). is_declared raw (λ k. not (is_port k)) n.word) raw.ports r4.fourth;
       ports_listed = λ d has port. is_true (is_named raw.ports d.name.word)
-        (second_false (is_port d.kind) (not (is_named raw.ports d.name.word)) port
-        (none_declared raw (is_unlisted raw) r4.fifth d has));
+          (second_false (is_port d.kind) (not (is_named raw.ports d.name.word)) port
+          (none_declared raw (is_unlisted raw) r4.fifth d has));
       gates_drive = filter_none (λ (n : RawName). is_declared raw (λ k. is_input k || is_reg k) n.word) (gate_targets raw)
-        r5.third;
+          r5.third;
       regs_drive = λ n has. is_true (is_declared raw is_reg n.word)
-        (filter_none (λ (n : RawName). not (is_declared raw is_reg n.word)) (reg_targets raw) r5.fourth n has);
+          (filter_none (λ (n : RawName). not (is_declared raw is_reg n.word)) (reg_targets raw) r5.fourth n has);
       driven = λ d has other. is_true (is_named (gate_targets raw ++ reg_targets raw) d.name.word)
-        (second_false (not (is_input d.kind)) (not (is_named (gate_targets raw ++ reg_targets raw) d.name.word)) (ap not other)
-        (none_declared raw (is_undriven raw) r5.fifth d has));
+          (second_false (not (is_input d.kind)) (not (is_named (gate_targets raw ++ reg_targets raw) d.name.word)) (ap not other)
+          (none_declared raw (is_undriven raw) r5.fifth d has));
       ordered = no_refusals 6 (rule_6 raw) all.third;
       inputs_few = place_past 64 (plain_inputs raw)
-        (left_empty (at_place 64 (plain_inputs raw)) (at_place 128 (all_outputs raw)) r8);
+          (left_empty (at_place 64 (plain_inputs raw)) (at_place 128 (all_outputs raw)) r8);
       outputs_few = place_past 128 (all_outputs raw)
-        (right_empty (at_place 64 (plain_inputs raw)) (at_place 128 (all_outputs raw)) r8);
+          (right_empty (at_place 64 (plain_inputs raw)) (at_place 128 (all_outputs raw)) r8);
     }
 
 -- ---- declarations
@@ -139,9 +139,12 @@ unbroken_has raw h =
 pub declared_has : (raw : RawNetlist) (such : DeclKind → Bool) (w : List ℕ) → is_declared raw such w ≡ true
     → (d : RawDecl) × Has raw.decls d × (such d.kind ≡ true) × (d.name.word ≡ w)
 declared_has raw such w h =
-    let r = any_has (λ (d : RawDecl). such d.kind && has_word w d.name) raw.decls h in
-    (r.0, r.1, and_left (such r.0.kind) (has_word w r.0.name) r.2,
-    sym (same_word w r.0.name.word (and_right (such r.0.kind) (has_word w r.0.name) r.2)))
+    let r = any_has (λ (d : RawDecl). such d.kind && has_word w d.name) raw.decls h in (
+      r.0,
+      r.1,
+      and_left (such r.0.kind) (has_word w r.0.name) r.2,
+      sym (same_word w r.0.name.word (and_right (such r.0.kind) (has_word w r.0.name) r.2)),
+    )
 
 pub has_declared : (raw : RawNetlist) (such : DeclKind → Bool) (w : List ℕ) (d : RawDecl) → Has raw.decls d → such d.kind ≡ true
     → d.name.word ≡ w → is_declared raw such w ≡ true

@@ -104,7 +104,7 @@ pub ordered_count : (raw : RawNetlist) → gate_count raw ≡ length (the_order 
 ordered_count raw =
     filter_map_long (λ n. option_map (moved (the_order raw)) (slice_get (text_gates raw) n)) (the_order raw) (λ n has.
     let g = some_at (text_gates raw) n
-        (order_there (text_gates raw) has.place n (ap (λ xs. slice_get xs has.place) (sym (order_same (text_gates raw))) ∙ has.is)) in
+    (order_there (text_gates raw) has.place n (ap (λ xs. slice_get xs has.place) (sym (order_same (text_gates raw))) ∙ has.is)) in
     (moved (the_order raw) g.0, ap (λ o. option_map (moved (the_order raw)) o) g.1))
 
 pub gates_short : (raw : RawNetlist) → gate_count raw ≤ length raw.gates
@@ -166,7 +166,7 @@ module _ (raw : RawNetlist) (r : IsRaw raw) (u : Unbroken raw) where
       let s = driver_stands v h in
       let t = driver_stands w k in
       let drivers = place_apart (driver raw v) (driver raw w) (slice_get_within raw.gates (driver raw v) s.item s.is)
-          (slice_get_within raw.gates (driver raw w) t.item t.is) e in
+      (slice_get_within raw.gates (driver raw w) t.item t.is) e in
       let same : s.item ≡ t.item = same_Some s.item t.item (sym s.is ∙ ap (λ i. slice_get raw.gates i) drivers ∙ t.is) in
       one_word (target_name t.item.target) v w
       (subst (λ (g : RawGate). drives v (target_name g.target) ≡ true) same s.passes) t.passes

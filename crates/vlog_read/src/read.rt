@@ -1,4 +1,4 @@
-// Whole texts: docs/FORMATS.md, "Verilog".
+// Whole texts: docs/VERILOG.md.
 ghost use Rattle.std.specs.Prelude.{◌≡◌, ℕ, List};
 ghost use Rattle.pbs_base.specs.declared.refusal.Refusal.{Refusal as RefusalValue};
 ghost use Rattle.net_core.specs.Circuits.{Circuit};
