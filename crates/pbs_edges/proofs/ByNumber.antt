@@ -1,5 +1,6 @@
 -- In a numbered tree the numbers of an edge tell what it aborts, enters, lies inside and leaves.
-use Rattle.std.proofs.Common.{◌≡◌, ℕ, suc, ◌+◌, ◌≤◌, true, ◌⊎◌, inl, inr, ◌↔◌, List, [], ◌∷◌, ◌++◌, arith, sym, ap, subst}
+use Rattle.std.proofs.Common.{◌≡◌, ℕ, suc, ◌+◌, ◌≤◌, true, ◌⊎◌, inl, inr, ◌↔◌, List, [], ◌∷◌, ◌++◌, arith, sym, ap}
+use Rattle.std.proofs.Common.{subst}
 use Rattle.std.specs.Prelude.{nat_eq}
 use Rattle.std.proofs.lemmas.Bool.{and_parts}
 use Rattle.pbs_ast.specs.Trees.{Tree}
@@ -8,8 +9,11 @@ use Rattle.pbs_edges.proofs.Numbering.{numbered}
 use Rattle.pbs_edges.proofs.Numbering.{IsNumbered}
 use Rattle.pbs_edges.specs.Edges.{Round, Body, Trap, Among, ScopedEdge, IsFollow, Aborts, Enters, LiesInBody, Leaves}
 use Rattle.pbs_edges.specs.Rounds.{place_rounds, node_rounds}
-use Rattle.pbs_edges.specs.ByNumber.{PlaceInBody, PlaceInTrap, NodeInBody, AbortsByNumber, EntersByNumber, LeavesByNumber}
-use Rattle.pbs_edges.proofs.Rounds.{Place, place_here, place_left, place_right, place_either, place_or, place_star, place_hold, place_body, place_trap, place_after, pair_parts, scope_parts, place_left_by, place_reached_by, edge_rounds}
+use Rattle.pbs_edges.specs.ByNumber.{PlaceInBody, PlaceInTrap, NodeInBody, AbortsByNumber, EntersByNumber}
+use Rattle.pbs_edges.specs.ByNumber.{LeavesByNumber}
+use Rattle.pbs_edges.proofs.Rounds.{Place, place_here, place_left, place_right, place_either, place_or, place_star}
+use Rattle.pbs_edges.proofs.Rounds.{place_hold, place_body, place_trap, place_after, pair_parts, scope_parts}
+use Rattle.pbs_edges.proofs.Rounds.{place_left_by, place_reached_by, edge_rounds}
 
 abbrev scope_of : Round → ℕ
 scope_of (Body s) = s
@@ -48,30 +52,41 @@ rising-apart b s (r ∷ rs) ls h g k = elim g [
   | inr t ↦ rising-apart (suc (scope_of r)) s rs ls h.1 t k
 ]
 
-rising_at_place : {e : Tree} {p : ℕ} {rs : List Round} → Place e p rs → (n b s : ℕ) → numbered e n b s ≡ true → Rising s rs
+rising_at_place : {e : Tree} {p : ℕ} {rs : List Round} → Place e p rs → (n b s : ℕ) → numbered e n b s ≡ true
+    → Rising s rs
 rising_at_place place_here n b s g = tt
-rising_at_place (place_left {at = at} {rs = rs} {e = e} {f = f} h) n b s g = let c = pair_parts at e f n b s g in rising_at_place h (n + 1) b s c.left
+rising_at_place (place_left {at = at} {rs = rs} {e = e} {f = f} h) n b s g = let c = pair_parts at e f n b s g in
+    rising_at_place h (n + 1) b s c.left
 rising_at_place (place_right {at = at} {rs = rs} {e = e} {f = f} h) n b s g =
     let c = pair_parts at e f n b s g in
-    rising-less s (s + scope_count e) rs (omega arith) (rising_at_place h (n + 1 + visit_count e) (b + place_count e) (s + scope_count e) c.right)
-rising_at_place (place_either {at = at} {rs = rs} {e = e} {f = f} h) n b s g = let c = pair_parts at e f n b s g in rising_at_place h (n + 1) b s c.left
+    rising-less s (s + scope_count e) rs (omega arith)
+    (rising_at_place h (n + 1 + visit_count e) (b + place_count e) (s + scope_count e) c.right)
+rising_at_place (place_either {at = at} {rs = rs} {e = e} {f = f} h) n b s g = let c = pair_parts at e f n b s g in
+    rising_at_place h (n + 1) b s c.left
 rising_at_place (place_or {at = at} {rs = rs} {e = e} {f = f} h) n b s g =
     let c = pair_parts at e f n b s g in
-    rising-less s (s + scope_count e) rs (omega arith) (rising_at_place h (n + 1 + visit_count e) (b + place_count e) (s + scope_count e) c.right)
-rising_at_place (place_star {at = at} {e = e} h) n b s g = rising_at_place h (n + 1) b s (and_parts (nat_eq at.number n) (numbered e (n + 1) b s) g).1
-rising_at_place (place_hold {at = at} {e = e} h) n b s g = rising_at_place h (n + 1) b s (and_parts (nat_eq at.number n) (numbered e (n + 1) b s) g).1
+    rising-less s (s + scope_count e) rs (omega arith)
+    (rising_at_place h (n + 1 + visit_count e) (b + place_count e) (s + scope_count e) c.right)
+rising_at_place (place_star {at = at} {e = e} h) n b s g = rising_at_place h (n + 1) b s
+    (and_parts (nat_eq at.number n) (numbered e (n + 1) b s) g).1
+rising_at_place (place_hold {at = at} {e = e} h) n b s g = rising_at_place h (n + 1) b s
+    (and_parts (nat_eq at.number n) (numbered e (n + 1) b s) g).1
 rising_at_place (place_body {at = at} {s = t} {rs = rs} {e = e} {x = x} {h = h} d) n b s g =
     let c = scope_parts at t e x h n b s g in
     let own : t ≡ s = c.scope in
     (omega arith, rising-less (suc t) (1 + s) rs (omega arith) (rising_at_place d (n + 1) b (1 + s) c.body))
 rising_at_place (place_trap {at = at} {s = t} {rs = rs} {e = e} {x = x} {h = h} d) n b s g =
     let c = scope_parts at t e x h n b s g in
-    let own : t ≡ s = c.scope in
-    (omega arith, rising-less (suc t) (1 + s + scope_count e) rs (omega arith) (rising_at_place d (n + 1 + visit_count e) (b + place_count e) (1 + s + scope_count e) c.trap))
+    let own : t ≡ s = c.scope in (
+      omega arith,
+      rising-less (suc t) (1 + s + scope_count e) rs (omega arith)
+          (rising_at_place d (n + 1 + visit_count e) (b + place_count e) (1 + s + scope_count e) c.trap),
+    )
 rising_at_place (place_after {at = at} {s = t} {rs = rs} {e = e} {x = x} {h = h} d) n b s g =
     let c = scope_parts at t e x h n b s g in
     rising-less s (1 + s + scope_count e + scope_count x) rs (omega arith)
-    (rising_at_place d (n + 1 + visit_count e + visit_count x) (b + place_count e + place_count x) (1 + s + scope_count e + scope_count x) c.after)
+    (rising_at_place d (n + 1 + visit_count e + visit_count x) (b + place_count e + place_count x)
+    (1 + s + scope_count e + scope_count x) c.after)
 
 in-body : (rs : List Round) (s : ℕ) → Among rs (Body s) → In rs s
 in-body [] s h = h
@@ -165,8 +180,16 @@ module _ (main : Tree) (number : IsNumbered main) (d : ScopedEdge) (follow : IsF
 
   leaves_from : LeavesByNumber main d.from s → Leaves d s
   leaves_from h = elim h [
-    | inl b ↦ elim (among-cases d.above d.left (Body s) (subst (λ rs. Among rs (Body s)) from_rounds b)) [ inl a ↦ inl (inl a) | inr c ↦ inr (inl c) ]
-    | inr t ↦ elim (among-cases d.above d.left (Trap s) (subst (λ rs. Among rs (Trap s)) from_rounds t)) [ inl a ↦ inl (inr a) | inr c ↦ inr (inr c) ]
+    | inl b ↦ elim (among-cases d.above d.left (Body s) (subst (λ rs. Among rs (Body s)) from_rounds b)) [
+      | inl a ↦ inl
+          (inl a)
+      | inr c ↦ inr (inl c)
+    ]
+    | inr t ↦ elim (among-cases d.above d.left (Trap s) (subst (λ rs. Among rs (Trap s)) from_rounds t)) [
+      | inl a ↦ inl
+          (inr a)
+      | inr c ↦ inr (inr c)
+    ]
   ]
 
   pub leaves_by_number : Leaves d s ↔ LeavesByNumber main d.from s

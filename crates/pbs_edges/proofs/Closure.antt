@@ -19,7 +19,8 @@ module _ (main : Tree) where
   module _ (R : ℕ → ℕ → Type 0) (closed : IsClosed R) where
     ends : {ds es : List ScopedEdge} → DoubleWalk main ds es → EndsIn R ds es
     ends (begin {d = d} {e = e} a b) =
-        subst (λ (x : ScopedEdge). R x.to e.to) (sym a.3) (subst (λ (x : ScopedEdge). R a.0 x.to) (sym b.3) (closed.starts a.0 b.0 a.1 b.1 a.2 b.2))
+        subst (λ (x : ScopedEdge). R x.to e.to) (sym a.3)
+        (subst (λ (x : ScopedEdge). R a.0 x.to) (sym b.3) (closed.starts a.0 b.0 a.1 b.1 a.2 b.2))
     ends (step {d = d} {e = e} {b = b} {c = c} w f g j) =
         closed.steps d e j (subst (λ p. R p e.from) (sym f) (subst (λ q. R b.to q) (sym g) (ends w)))
 
@@ -28,7 +29,8 @@ module _ (main : Tree) where
 
   -- a joint step from a pair that is reached, in which d lies inside the body of s and e enters s, or the other way round
   abbrev pub IsRefusedStep : ℕ → ScopedEdge → ScopedEdge → Type 0
-  IsRefusedStep s d e = IsJointStep main d e × Reaches main d.from e.from × ((LiesInBody d s × Enters e s) ⊎ (Enters d s × LiesInBody e s))
+  IsRefusedStep s d e = IsJointStep main d e × Reaches main d.from e.from ×
+      ((LiesInBody d s × Enters e s) ⊎ (Enters d s × LiesInBody e s))
 
   pub refused_from_step : (s : ℕ) (d e : ScopedEdge) → IsRefusedStep s d e → IsRefused main s
   refused_from_step s d e h =
@@ -43,7 +45,8 @@ module _ (main : Tree) where
 
   last_step : {ds es : List ScopedEdge} → DoubleWalk main ds es → LastStep ds es
   last_step (begin a b) = inl (a, b)
-  last_step (step {d = d} {e = e} {b = b} {c = c} {bs = bs} {cs = cs} w f g j) = inr (j, (b, c, bs, cs, w, sym f, sym g))
+  last_step (step {d = d} {e = e} {b = b} {c = c} {bs = bs} {cs = cs} w f g j) = inr
+      (j, (b, c, bs, cs, w, sym f, sym g))
 
   -- a start edge lies inside nothing
   start-not_inside : (d : ScopedEdge) (s : ℕ) → IsStart main d → LiesInBody d s → ⊥
@@ -81,4 +84,5 @@ module _ (main : Tree) where
   reaches-step d e j r = (d, e, r.0 ∷ r.2, r.1 ∷ r.3, step r.4 (sym r.5) (sym r.6) j, refl, refl)
 
   pub reaches-start : (p q : ℕ) (rs ts : List Round) → First main p rs → First main q ts → Reaches main p q
-  reaches-start p q rs ts f g = (start_edge p, start_edge q, [], [], begin (p, rs, f, refl) (q, ts, g, refl), refl, refl)
+  reaches-start p q rs ts f g =
+      (start_edge p, start_edge q, [], [], begin (p, rs, f, refl) (q, ts, g, refl), refl, refl)

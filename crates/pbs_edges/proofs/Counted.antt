@@ -118,7 +118,8 @@ scope_counts at s e x h c d g r body trap after empty first last more = record {
       (length-two (follow_edges x) (follow_edges h) at.number (last_places x) (first_places h)) in
       more ∙ three_capped (length (follow_edges e)) (length (follow_edges x)) (length (follow_edges h))
       (d.lasts * g.firsts) c.follows d.follows g.follows body.follows trap.follows after.follows
-      ∙ ap (λ k. min (length (follow_edges e) + (length (follow_edges x) + (length (follow_edges h) + k))) 16385) product
+      ∙ ap (λ k. min (length (follow_edges e) +
+      (length (follow_edges x) + (length (follow_edges h) + k))) 16385) product
       ∙ ap (λ k. min k 16385) (sym size);
   few_firsts = let b = body.few_firsts in let k = trap.few_firsts in omega arith;
   few_lasts =

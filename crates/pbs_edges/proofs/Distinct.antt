@@ -16,7 +16,8 @@ abbrev pub Distinct : List Edge → Type 0
 Distinct [] = Unit {0}
 Distinct (d ∷ ds) = (OneOf ds d → ⊥) × Distinct ds
 
-distinct-append : (xs ys : List Edge) → Distinct xs → Distinct ys → ((d : Edge) → OneOf xs d → OneOf ys d → ⊥) → Distinct (xs ++ ys)
+distinct-append : (xs ys : List Edge) → Distinct xs → Distinct ys → ((d : Edge) → OneOf xs d → OneOf ys d → ⊥)
+    → Distinct (xs ++ ys)
 distinct-append [] ys h g apart = g
 distinct-append (x ∷ xs) ys h g apart = (
   λ m. elim (one_of-cases xs ys x m) [ inl l ↦ h.0 l | inr r ↦ apart x (inl refl) r ],
@@ -37,16 +38,19 @@ distinct_to n p b c (q ∷ qs) h = (
   distinct_to n p (suc q) c qs h.1,
 )
 
-distinct_between : (n b c d f : ℕ) (ps qs : List ℕ) → RisesWithin b c ps → RisesWithin d f qs → Distinct (edges_between n ps qs)
+distinct_between : (n b c d f : ℕ) (ps qs : List ℕ) → RisesWithin b c ps → RisesWithin d f qs → Distinct
+    (edges_between n ps qs)
 distinct_between n b c d f [] qs h g = tt
 distinct_between n b c d f (p ∷ ps) qs h g =
-    distinct-append (edges_to n p qs) (edges_between n ps qs) (distinct_to n p d f qs g) (distinct_between n (suc p) c d f ps qs h.1 g)
+    distinct-append (edges_to n p qs) (edges_between n ps qs) (distinct_to n p d f qs g)
+    (distinct_between n (suc p) c d f ps qs h.1 g)
     (λ x l r.
     let same : x.from ≡ p = (to_listed n p qs x l).1 in
     let k = rises-low (suc p) c x.from ps h.1 (between_listed n ps qs x r).1 in omega arith)
 
 -- an edge of a part has a node of the part
-node_within : (e : Tree) (d : Edge) (n b s : ℕ) → numbered e n b s ≡ true → OneOf (follow_edges e) d → (n ≤ d.node) × (d.node < n + visit_count e)
+node_within : (e : Tree) (d : Edge) (n b s : ℕ) → numbered e n b s ≡ true → OneOf (follow_edges e) d → (n ≤ d.node) ×
+    (d.node < n + visit_count e)
 node_within e d n b s g h = let r = follow_listed e d h in let f = node_found (node_of r.3) n b s g in (f.low, f.high)
 
 -- of three lists, no edge of one stands in another

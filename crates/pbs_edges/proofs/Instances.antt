@@ -7,18 +7,26 @@ use Rattle.pbs_edges.proofs.Tests.{Quiet, IsFirstPass}
 
 -- in a derivation of the tree from i at k, the instance of scope t that began at a, with body b and trap y, is live
 pub data Lives (v : List ℕ) : Tree → (i k t a : ℕ) → (b y : Tree) → Type 0 where
-  lives_here : {at : Spot} {s i k : ℕ} {e x h : Tree} → i ≤ k → Quiet (trips e x v i) i k → alive e v i k ≡ true → Lives v (Scope at s e x h) i k s i e x
+  lives_here : {at : Spot} {s i k : ℕ} {e x h : Tree} → i ≤ k → Quiet (trips e x v i) i k → alive e v i k ≡ true
+      → Lives v (Scope at s e x h) i k s i e x
   lives_left : {at : Spot} {i k t a : ℕ} {b y e f : Tree} → Lives v e i k t a b y → Lives v (Seq at e f) i k t a b y
-  lives_right : {at : Spot} {i m k t a : ℕ} {b y e f : Tree} → i ≤ m → m ≤ k → covers e v i m ≡ true → Lives v f m k t a b y → Lives v (Seq at e f) i k t a b y
-  lives_either : {at : Spot} {i k t a : ℕ} {b y e f : Tree} → Lives v e i k t a b y → Lives v (Choice at e f) i k t a b y
+  lives_right : {at : Spot} {i m k t a : ℕ} {b y e f : Tree} → i ≤ m → m ≤ k → covers e v i m ≡ true
+      → Lives v f m k t a b y → Lives v (Seq at e f) i k t a b y
+  lives_either : {at : Spot} {i k t a : ℕ} {b y e f : Tree} → Lives v e i k t a b y → Lives v
+      (Choice at e f) i k t a b y
   lives_or : {at : Spot} {i k t a : ℕ} {b y e f : Tree} → Lives v f i k t a b y → Lives v (Choice at e f) i k t a b y
-  lives_star : {at : Spot} {i m k t a : ℕ} {b y e : Tree} → i ≤ m → m ≤ k → repeats (covers e v) (m - i) i m ≡ true → Lives v e m k t a b y
+  lives_star : {at : Spot} {i m k t a : ℕ} {b y e : Tree} → i ≤ m → m ≤ k → repeats (covers e v) (m - i) i m ≡ true
+      → Lives v e m k t a b y
       → Lives v (Star at e) i k t a b y
-  lives_hold : {at : Spot} {i k t a : ℕ} {b y e : Tree} {c : Term} → all_hold c v i k ≡ true → Lives v e i k t a b y → Lives v (Hold at c e) i k t a b y
-  lives_body : {at : Spot} {s i k t a : ℕ} {b y e x h : Tree} → Quiet (trips e x v i) i k → Lives v e i k t a b y → Lives v (Scope at s e x h) i k t a b y
-  lives_trap : {at : Spot} {s i k t a : ℕ} {b y e x h : Tree} → Quiet (trips e x v i) i k → alive e v i k ≡ true → Lives v x i k t a b y
+  lives_hold : {at : Spot} {i k t a : ℕ} {b y e : Tree} {c : Term} → all_hold c v i k ≡ true → Lives v e i k t a b y
+      → Lives v (Hold at c e) i k t a b y
+  lives_body : {at : Spot} {s i k t a : ℕ} {b y e x h : Tree} → Quiet (trips e x v i) i k → Lives v e i k t a b y
       → Lives v (Scope at s e x h) i k t a b y
-  lives_after : {at : Spot} {s i m k t a : ℕ} {b y e x h : Tree} → m ≤ k → IsFirstPass (trips e x v i) i m → Lives v h m k t a b y
+  lives_trap : {at : Spot} {s i k t a : ℕ} {b y e x h : Tree} → Quiet (trips e x v i) i k → alive e v i k ≡ true
+      → Lives v x i k t a b y
+      → Lives v (Scope at s e x h) i k t a b y
+  lives_after : {at : Spot} {s i m k t a : ℕ} {b y e x h : Tree} → m ≤ k → IsFirstPass (trips e x v i) i m
+      → Lives v h m k t a b y
       → Lives v (Scope at s e x h) i k t a b y
 
 -- an instance begins within the stretch

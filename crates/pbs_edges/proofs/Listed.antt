@@ -5,7 +5,12 @@ use Rattle.pbs_ast.specs.Trees.{Tree, Empty, Terminal, Action, Seq, Choice, Star
 use Rattle.pbs_edges.specs.Listed.{first_places, last_places, edges_to, edges_between, follow_edges}
 use Rattle.pbs_edges.specs.declared.edge.Edge.{Edge}
 use Rattle.pbs_ast.specs.Trees.{nullable}
-use Rattle.pbs_edges.specs.Edges.{Round, Body, Trap, First, first_terminal, first_left, first_right, first_either, first_or, first_star, first_hold, first_body, first_trap, Last, last_terminal, last_right, last_left, last_either, last_or, last_star, last_hold, last_body, last_after, last_trap, Follow, follow_seq, follow_star, follow_scope, within_left, within_right, within_either, within_or, within_star, within_hold, within_body, within_trap, within_after}
+use Rattle.pbs_edges.specs.Edges.{Round, Body, Trap, First, first_terminal, first_left, first_right, first_either}
+use Rattle.pbs_edges.specs.Edges.{first_or, first_star, first_hold, first_body, first_trap, Last, last_terminal}
+use Rattle.pbs_edges.specs.Edges.{last_right, last_left, last_either, last_or, last_star, last_hold, last_body}
+use Rattle.pbs_edges.specs.Edges.{last_after, last_trap, Follow, follow_seq, follow_star, follow_scope, within_left}
+use Rattle.pbs_edges.specs.Edges.{within_right, within_either, within_or, within_star, within_hold, within_body}
+use Rattle.pbs_edges.specs.Edges.{within_trap, within_after}
 
 -- x is one of xs
 abbrev pub OneOf : {A : Type 0} → List A → A → Type 0
@@ -39,8 +44,10 @@ module _ {A : Type 0} where
 
 pub listed_first : {e : Tree} {p : ℕ} {rs : List Round} → First e p rs → OneOf (first_places e) p
 listed_first first_terminal = inl refl
-listed_first {p = p} (first_left {e = e} {f = f} h) = one_of-left (first_places e) (cond (nullable e) (first_places f) []) p (listed_first h)
-listed_first {p = p} (first_right {e = e} {f = f} c h) = one_of-right (first_places e) (cond (nullable e) (first_places f) []) p
+listed_first {p = p} (first_left {e = e} {f = f} h) = one_of-left (first_places e)
+    (cond (nullable e) (first_places f) []) p (listed_first h)
+listed_first {p = p} (first_right {e = e} {f = f} c h) = one_of-right (first_places e)
+    (cond (nullable e) (first_places f) []) p
     (one_of-when (nullable e) (first_places f) p c (listed_first h))
 listed_first {p = p} (first_either {e = e} {f = f} h) = one_of-left (first_places e) (first_places f) p (listed_first h)
 listed_first {p = p} (first_or {e = e} {f = f} h) = one_of-right (first_places e) (first_places f) p (listed_first h)
@@ -51,11 +58,16 @@ listed_first {p = p} (first_trap {e = e} {x = x} h) = one_of-right (first_places
 
 pub first_listed : (e : Tree) (p : ℕ) → OneOf (first_places e) p → (rs : List Round) × First e p rs
 first_listed (Empty at) p h = absurd h
-first_listed (Terminal at q t) p h = elim h [ inl e ↦ ([], subst (λ r. First (Terminal at q t) r []) e first_terminal) | inr z ↦ absurd z ]
+first_listed (Terminal at q t) p h = elim h [
+  | inl e ↦
+      ([], subst (λ r. First (Terminal at q t) r []) e first_terminal)
+  | inr z ↦ absurd z
+]
 first_listed (Action at a) p h = absurd h
 first_listed (Seq at e f) p h = elim (one_of-cases (first_places e) (cond (nullable e) (first_places f) []) p h) [
   | inl l ↦ let r = first_listed e p l in (r.0, first_left r.1)
-  | inr m ↦ let c = one_of-if (nullable e) (first_places f) p m in let r = first_listed f p c.1 in (r.0, first_right c.0 r.1)
+  | inr m ↦ let c = one_of-if (nullable e) (first_places f) p m in let r = first_listed f p c.1 in
+      (r.0, first_right c.0 r.1)
 ]
 first_listed (Choice at e f) p h = elim (one_of-cases (first_places e) (first_places f) p h) [
   | inl l ↦ let r = first_listed e p l in (r.0, first_either r.1)
@@ -70,25 +82,36 @@ first_listed (Scope at s e x h) p g = elim (one_of-cases (first_places e) (first
 
 pub listed_last : {e : Tree} {p : ℕ} {rs : List Round} → Last e p rs → OneOf (last_places e) p
 listed_last last_terminal = inl refl
-listed_last {p = p} (last_right {e = e} {f = f} h) = one_of-right (cond (nullable f) (last_places e) []) (last_places f) p (listed_last h)
-listed_last {p = p} (last_left {e = e} {f = f} h c) = one_of-left (cond (nullable f) (last_places e) []) (last_places f) p
+listed_last {p = p} (last_right {e = e} {f = f} h) = one_of-right (cond (nullable f) (last_places e) [])
+    (last_places f) p (listed_last h)
+listed_last {p = p} (last_left {e = e} {f = f} h c) = one_of-left (cond (nullable f) (last_places e) [])
+    (last_places f) p
     (one_of-when (nullable f) (last_places e) p c (listed_last h))
 listed_last {p = p} (last_either {e = e} {f = f} h) = one_of-left (last_places e) (last_places f) p (listed_last h)
 listed_last {p = p} (last_or {e = e} {f = f} h) = one_of-right (last_places e) (last_places f) p (listed_last h)
 listed_last (last_star h) = listed_last h
 listed_last (last_hold h) = listed_last h
-listed_last {p = p} (last_body {e = e} {x = x} {h = h} l) = one_of-left (last_places e) (cond (nullable h) (last_places x) [] ++ last_places h) p (listed_last l)
-listed_last {p = p} (last_after {e = e} {x = x} {h = h} l) = one_of-right (last_places e) (cond (nullable h) (last_places x) [] ++ last_places h) p
+listed_last {p = p} (last_body {e = e} {x = x} {h = h} l) = one_of-left (last_places e)
+    (cond (nullable h) (last_places x) [] ++ last_places h) p (listed_last l)
+listed_last {p = p} (last_after {e = e} {x = x} {h = h} l) = one_of-right (last_places e)
+    (cond (nullable h) (last_places x) [] ++ last_places h) p
     (one_of-right (cond (nullable h) (last_places x) []) (last_places h) p (listed_last l))
-listed_last {p = p} (last_trap {e = e} {x = x} {h = h} l c) = one_of-right (last_places e) (cond (nullable h) (last_places x) [] ++ last_places h) p
-    (one_of-left (cond (nullable h) (last_places x) []) (last_places h) p (one_of-when (nullable h) (last_places x) p c (listed_last l)))
+listed_last {p = p} (last_trap {e = e} {x = x} {h = h} l c) = one_of-right (last_places e)
+    (cond (nullable h) (last_places x) [] ++ last_places h) p
+    (one_of-left (cond (nullable h) (last_places x) []) (last_places h) p
+    (one_of-when (nullable h) (last_places x) p c (listed_last l)))
 
 pub last_listed : (e : Tree) (p : ℕ) → OneOf (last_places e) p → (rs : List Round) × Last e p rs
 last_listed (Empty at) p h = absurd h
-last_listed (Terminal at q t) p h = elim h [ inl e ↦ ([], subst (λ r. Last (Terminal at q t) r []) e last_terminal) | inr z ↦ absurd z ]
+last_listed (Terminal at q t) p h = elim h [
+  | inl e ↦
+      ([], subst (λ r. Last (Terminal at q t) r []) e last_terminal)
+  | inr z ↦ absurd z
+]
 last_listed (Action at a) p h = absurd h
 last_listed (Seq at e f) p h = elim (one_of-cases (cond (nullable f) (last_places e) []) (last_places f) p h) [
-  | inl m ↦ let c = one_of-if (nullable f) (last_places e) p m in let r = last_listed e p c.1 in (r.0, last_left r.1 c.0)
+  | inl m ↦ let c = one_of-if (nullable f) (last_places e) p m in let r = last_listed e p c.1 in
+      (r.0, last_left r.1 c.0)
   | inr l ↦ let r = last_listed f p l in (r.0, last_right r.1)
 ]
 last_listed (Choice at e f) p h = elim (one_of-cases (last_places e) (last_places f) p h) [
@@ -97,13 +120,15 @@ last_listed (Choice at e f) p h = elim (one_of-cases (last_places e) (last_place
 ]
 last_listed (Star at e) p h = let r = last_listed e p h in (r.0, last_star r.1)
 last_listed (Hold at t e) p h = let r = last_listed e p h in (r.0, last_hold r.1)
-last_listed (Scope at s e x h) p g = elim (one_of-cases (last_places e) (cond (nullable h) (last_places x) [] ++ last_places h) p g) [
-  | inl l ↦ let r = last_listed e p l in (Body s ∷ r.0, last_body r.1)
-  | inr m ↦ elim (one_of-cases (cond (nullable h) (last_places x) []) (last_places h) p m) [
-    | inl k ↦ let c = one_of-if (nullable h) (last_places x) p k in let r = last_listed x p c.1 in (Trap s ∷ r.0, last_trap r.1 c.0)
-    | inr k ↦ let r = last_listed h p k in (r.0, last_after r.1)
-  ]
-]
+last_listed (Scope at s e x h) p g = elim
+    (one_of-cases (last_places e) (cond (nullable h) (last_places x) [] ++ last_places h) p g) [
+      | inl l ↦ let r = last_listed e p l in (Body s ∷ r.0, last_body r.1)
+      | inr m ↦ elim (one_of-cases (cond (nullable h) (last_places x) []) (last_places h) p m) [
+        | inl k ↦ let c = one_of-if (nullable h) (last_places x) p k in let r = last_listed x p c.1 in
+            (Trap s ∷ r.0, last_trap r.1 c.0)
+        | inr k ↦ let r = last_listed h p k in (r.0, last_after r.1)
+      ]
+    ]
 
 -- the edge with these numbers
 abbrev pub numbers : ℕ → ℕ → ℕ → Edge
@@ -113,21 +138,25 @@ listed_to : (n p : ℕ) (qs : List ℕ) (q : ℕ) → OneOf qs q → OneOf (edge
 listed_to n p [] q h = absurd h
 listed_to n p (r ∷ qs) q h = elim h [ inl e ↦ inl (ap (λ x. numbers p x n) e) | inr t ↦ inr (listed_to n p qs q t) ]
 
-listed_between : (n : ℕ) (ps qs : List ℕ) (p q : ℕ) → OneOf ps p → OneOf qs q → OneOf (edges_between n ps qs) (numbers p q n)
+listed_between : (n : ℕ) (ps qs : List ℕ) (p q : ℕ) → OneOf ps p → OneOf qs q → OneOf (edges_between n ps qs)
+    (numbers p q n)
 listed_between n [] qs p q h g = absurd h
 listed_between n (r ∷ ps) qs p q h g = elim h [
-  | inl e ↦ one_of-left (edges_to n r qs) (edges_between n ps qs) (numbers p q n) (subst (λ x. OneOf (edges_to n r qs) (numbers x q n)) e (listed_to n r qs q g))
+  | inl e ↦ one_of-left (edges_to n r qs) (edges_between n ps qs) (numbers p q n)
+      (subst (λ x. OneOf (edges_to n r qs) (numbers x q n)) e (listed_to n r qs q g))
   | inr t ↦ one_of-right (edges_to n r qs) (edges_between n ps qs) (numbers p q n) (listed_between n ps qs p q t g)
 ]
 
-pub to_listed : (n p : ℕ) (qs : List ℕ) (d : Edge) → OneOf (edges_to n p qs) d → (d.node ≡ n) × (d.from ≡ p) × OneOf qs d.to
+pub to_listed : (n p : ℕ) (qs : List ℕ) (d : Edge) → OneOf (edges_to n p qs) d → (d.node ≡ n) × (d.from ≡ p)
+    × OneOf qs d.to
 to_listed n p [] d h = absurd h
 to_listed n p (q ∷ qs) d h = elim h [
   | inl e ↦ (ap (λ (x : Edge). x.node) (sym e), ap (λ (x : Edge). x.from) (sym e), inl (ap (λ (x : Edge). x.to) e))
   | inr t ↦ let r = to_listed n p qs d t in (r.0, r.1, inr r.2)
 ]
 
-pub between_listed : (n : ℕ) (ps qs : List ℕ) (d : Edge) → OneOf (edges_between n ps qs) d → (d.node ≡ n) × OneOf ps d.from × OneOf qs d.to
+pub between_listed : (n : ℕ) (ps qs : List ℕ) (d : Edge) → OneOf (edges_between n ps qs) d → (d.node ≡ n)
+    × OneOf ps d.from × OneOf qs d.to
 between_listed n [] qs d h = absurd h
 between_listed n (p ∷ ps) qs d h = elim (one_of-cases (edges_to n p qs) (edges_between n ps qs) d h) [
   | inl l ↦ let r = to_listed n p qs d l in (r.0, inl (sym r.1), r.2)

@@ -55,7 +55,8 @@ numbered_from (Scope at r e x h) n p s a b c =
     && nodes_from h (n + 1 + visit_count e + visit_count x))) a in
     let l = and_parts (nodes_from e (n + 1)) (nodes_from x (n + 1 + visit_count e)
     && nodes_from h (n + 1 + visit_count e + visit_count x)) k.1 in
-    let m = and_parts (nodes_from x (n + 1 + visit_count e)) (nodes_from h (n + 1 + visit_count e + visit_count x)) l.1 in
+    let m = and_parts (nodes_from x (n + 1 + visit_count e))
+    (nodes_from h (n + 1 + visit_count e + visit_count x)) l.1 in
     let q = and_parts (places_from e p) (places_from x (p + place_count e)
     && places_from h (p + place_count e + place_count x)) b in
     let t = and_parts (places_from x (p + place_count e)) (places_from h (p + place_count e + place_count x)) q.1 in
@@ -63,7 +64,8 @@ numbered_from (Scope at r e x h) n p s a b c =
     && scopes_from h (1 + s + scope_count e + scope_count x))) c in
     let v = and_parts (scopes_from e (1 + s)) (scopes_from x (1 + s + scope_count e)
     && scopes_from h (1 + s + scope_count e + scope_count x)) u.1 in
-    let w = and_parts (scopes_from x (1 + s + scope_count e)) (scopes_from h (1 + s + scope_count e + scope_count x)) v.1 in
+    let w = and_parts (scopes_from x (1 + s + scope_count e))
+    (scopes_from h (1 + s + scope_count e + scope_count x)) v.1 in
     and_from _ _ k.0 (and_from _ _ u.0 (and_from _ _ (numbered_from e (n + 1) p (1 + s) l.0 q.0 v.0)
     (and_from _ _ (numbered_from x (n + 1 + visit_count e) (p + place_count e) (1 + s + scope_count e) m.0 t.0 w.0)
     (numbered_from h (n + 1 + visit_count e + visit_count x) (p + place_count e + place_count x)

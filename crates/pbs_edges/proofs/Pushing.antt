@@ -5,7 +5,8 @@ use Rattle.pbs_edges.specs.Listed.{edges_to, edges_between}
 use Rattle.pbs_edges.specs.declared.edge.Edge.{Edge}
 
 to-take : (n p : ℕ) (qs : List ℕ) (i : ℕ) → i < length qs
-    → edges_to n p (take (suc i) qs) ≡ edges_to n p (take i qs) ++ (record { from = p; to = get_or qs i 0; node = n }) ∷ []
+    → edges_to n p (take (suc i) qs) ≡ edges_to n p (take i qs) ++
+    (record { from = p; to = get_or qs i 0; node = n }) ∷ []
 to-take n p [] i l = absurd (omega arith)
 to-take n p (q ∷ qs) zero l = refl
 to-take n p (q ∷ qs) (suc i) l =

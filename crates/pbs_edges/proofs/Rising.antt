@@ -37,55 +37,76 @@ rises-none : (b c d : ℕ) → c ≤ d → (xs : List ℕ) → RisesWithin b c x
 rises-none b c d l [] h = omega arith
 rises-none b c d l (x ∷ xs) h = (h.0, rises-none (suc x) c d l xs h.1)
 
-pub first_places-rise : (e : Tree) (n b s : ℕ) → numbered e n b s ≡ true → RisesWithin b (b + place_count e) (first_places e)
+pub first_places-rise : (e : Tree) (n b s : ℕ) → numbered e n b s ≡ true → RisesWithin b (b + place_count e)
+    (first_places e)
 first_places-rise (Empty at) n b s g = omega arith
 first_places-rise (Terminal at q t) n b s g =
     let own : q ≡ b = eqb-true q b (and_parts (nat_eq at.number n) (nat_eq q b) g).1 in (omega arith, omega arith)
 first_places-rise (Action at a) n b s g = omega arith
 first_places-rise (Seq at e f) n b s g =
     let c = pair_parts at e f n b s g in
-    let r = rises-append b (b + place_count e) (b + place_count e + place_count f) (first_places e) (cond (nullable e) (first_places f) [])
+    let r = rises-append b (b + place_count e) (b + place_count e + place_count f) (first_places e)
+    (cond (nullable e) (first_places f) [])
     (first_places-rise e (n + 1) b s c.left)
     (rises-if (nullable e) (b + place_count e) (b + place_count e + place_count f) (first_places f)
     (first_places-rise f (n + 1 + visit_count e) (b + place_count e) (s + scope_count e) c.right)) in
-    rises-none b (b + place_count e + place_count f) (b + (place_count e + place_count f)) (omega arith) (first_places e ++ cond (nullable e) (first_places f) []) r
+    rises-none b (b + place_count e + place_count f) (b + (place_count e + place_count f)) (omega arith)
+    (first_places e ++ cond (nullable e) (first_places f) []) r
 first_places-rise (Choice at e f) n b s g =
     let c = pair_parts at e f n b s g in
     let r = rises-append b (b + place_count e) (b + place_count e + place_count f) (first_places e) (first_places f)
-    (first_places-rise e (n + 1) b s c.left) (first_places-rise f (n + 1 + visit_count e) (b + place_count e) (s + scope_count e) c.right) in
-    rises-none b (b + place_count e + place_count f) (b + (place_count e + place_count f)) (omega arith) (first_places e ++ first_places f) r
-first_places-rise (Star at e) n b s g = first_places-rise e (n + 1) b s (and_parts (nat_eq at.number n) (numbered e (n + 1) b s) g).1
-first_places-rise (Hold at t e) n b s g = first_places-rise e (n + 1) b s (and_parts (nat_eq at.number n) (numbered e (n + 1) b s) g).1
+    (first_places-rise e (n + 1) b s c.left)
+    (first_places-rise f (n + 1 + visit_count e) (b + place_count e) (s + scope_count e) c.right) in
+    rises-none b (b + place_count e + place_count f) (b + (place_count e + place_count f)) (omega arith)
+    (first_places e ++ first_places f) r
+first_places-rise (Star at e) n b s g = first_places-rise e (n + 1) b s
+    (and_parts (nat_eq at.number n) (numbered e (n + 1) b s) g).1
+first_places-rise (Hold at t e) n b s g = first_places-rise e (n + 1) b s
+    (and_parts (nat_eq at.number n) (numbered e (n + 1) b s) g).1
 first_places-rise (Scope at t e x h) n b s g =
     let c = scope_parts at t e x h n b s g in
     let r = rises-append b (b + place_count e) (b + place_count e + place_count x) (first_places e) (first_places x)
-    (first_places-rise e (n + 1) b (1 + s) c.body) (first_places-rise x (n + 1 + visit_count e) (b + place_count e) (1 + s + scope_count e) c.trap) in
-    rises-none b (b + place_count e + place_count x) (b + (place_count e + place_count x + place_count h)) (omega arith) (first_places e ++ first_places x) r
+    (first_places-rise e (n + 1) b (1 + s) c.body)
+    (first_places-rise x (n + 1 + visit_count e) (b + place_count e) (1 + s + scope_count e) c.trap) in
+    rises-none b (b + place_count e + place_count x) (b + (place_count e + place_count x + place_count h)) (omega arith)
+    (first_places e ++ first_places x) r
 
-pub last_places-rise : (e : Tree) (n b s : ℕ) → numbered e n b s ≡ true → RisesWithin b (b + place_count e) (last_places e)
+pub last_places-rise : (e : Tree) (n b s : ℕ) → numbered e n b s ≡ true → RisesWithin b (b + place_count e)
+    (last_places e)
 last_places-rise (Empty at) n b s g = omega arith
 last_places-rise (Terminal at q t) n b s g =
     let own : q ≡ b = eqb-true q b (and_parts (nat_eq at.number n) (nat_eq q b) g).1 in (omega arith, omega arith)
 last_places-rise (Action at a) n b s g = omega arith
 last_places-rise (Seq at e f) n b s g =
     let c = pair_parts at e f n b s g in
-    let r = rises-append b (b + place_count e) (b + place_count e + place_count f) (cond (nullable f) (last_places e) []) (last_places f)
+    let r = rises-append b (b + place_count e) (b + place_count e + place_count f)
+    (cond (nullable f) (last_places e) []) (last_places f)
     (rises-if (nullable f) b (b + place_count e) (last_places e) (last_places-rise e (n + 1) b s c.left))
     (last_places-rise f (n + 1 + visit_count e) (b + place_count e) (s + scope_count e) c.right) in
-    rises-none b (b + place_count e + place_count f) (b + (place_count e + place_count f)) (omega arith) (cond (nullable f) (last_places e) [] ++ last_places f) r
+    rises-none b (b + place_count e + place_count f) (b + (place_count e + place_count f)) (omega arith)
+    (cond (nullable f) (last_places e) [] ++ last_places f) r
 last_places-rise (Choice at e f) n b s g =
     let c = pair_parts at e f n b s g in
     let r = rises-append b (b + place_count e) (b + place_count e + place_count f) (last_places e) (last_places f)
-    (last_places-rise e (n + 1) b s c.left) (last_places-rise f (n + 1 + visit_count e) (b + place_count e) (s + scope_count e) c.right) in
-    rises-none b (b + place_count e + place_count f) (b + (place_count e + place_count f)) (omega arith) (last_places e ++ last_places f) r
-last_places-rise (Star at e) n b s g = last_places-rise e (n + 1) b s (and_parts (nat_eq at.number n) (numbered e (n + 1) b s) g).1
-last_places-rise (Hold at t e) n b s g = last_places-rise e (n + 1) b s (and_parts (nat_eq at.number n) (numbered e (n + 1) b s) g).1
+    (last_places-rise e (n + 1) b s c.left)
+    (last_places-rise f (n + 1 + visit_count e) (b + place_count e) (s + scope_count e) c.right) in
+    rises-none b (b + place_count e + place_count f) (b + (place_count e + place_count f)) (omega arith)
+    (last_places e ++ last_places f) r
+last_places-rise (Star at e) n b s g = last_places-rise e (n + 1) b s
+    (and_parts (nat_eq at.number n) (numbered e (n + 1) b s) g).1
+last_places-rise (Hold at t e) n b s g = last_places-rise e (n + 1) b s
+    (and_parts (nat_eq at.number n) (numbered e (n + 1) b s) g).1
 last_places-rise (Scope at t e x h) n b s g =
     let c = scope_parts at t e x h n b s g in
-    let tail = rises-append (b + place_count e) (b + place_count e + place_count x) (b + place_count e + place_count x + place_count h) (cond (nullable h) (last_places x) []) (last_places h)
-    (rises-if (nullable h) (b + place_count e) (b + place_count e + place_count x) (last_places x) (last_places-rise x (n + 1 + visit_count e) (b + place_count e) (1 + s + scope_count e) c.trap))
-    (last_places-rise h (n + 1 + visit_count e + visit_count x) (b + place_count e + place_count x) (1 + s + scope_count e + scope_count x) c.after) in
-    let r = rises-append b (b + place_count e) (b + place_count e + place_count x + place_count h) (last_places e) (cond (nullable h) (last_places x) [] ++ last_places h)
+    let tail = rises-append (b + place_count e) (b + place_count e + place_count x)
+    (b + place_count e + place_count x + place_count h) (cond (nullable h) (last_places x) []) (last_places h)
+    (rises-if (nullable h) (b + place_count e) (b + place_count e + place_count x) (last_places x)
+    (last_places-rise x (n + 1 + visit_count e) (b + place_count e) (1 + s + scope_count e) c.trap))
+    (last_places-rise h (n + 1 + visit_count e + visit_count x) (b + place_count e + place_count x)
+    (1 + s + scope_count e + scope_count x) c.after) in
+    let r = rises-append b (b + place_count e) (b + place_count e + place_count x + place_count h) (last_places e)
+    (cond (nullable h) (last_places x) [] ++ last_places h)
     (last_places-rise e (n + 1) b (1 + s) c.body) tail in
-    rises-none b (b + place_count e + place_count x + place_count h) (b + (place_count e + place_count x + place_count h)) (omega arith)
+    rises-none b (b + place_count e + place_count x + place_count h)
+    (b + (place_count e + place_count x + place_count h)) (omega arith)
     (last_places e ++ (cond (nullable h) (last_places x) [] ++ last_places h)) r

@@ -8,7 +8,12 @@ use Rattle.pbs_ast.specs.Sound.{visit_count, place_count, scope_count}
 use Rattle.pbs_edges.proofs.Numbering.{numbered}
 use Rattle.pbs_edges.proofs.Numbering.{IsNumbered}
 use Rattle.pbs_edges.specs.Rounds.{place_rounds, node_rounds}
-use Rattle.pbs_edges.specs.Edges.{Round, Body, Trap, First, first_terminal, first_left, first_right, first_either, first_or, first_star, first_hold, first_body, first_trap, Last, last_terminal, last_right, last_left, last_either, last_or, last_star, last_hold, last_body, last_after, last_trap, Follow, follow_seq, follow_star, follow_scope, within_left, within_right, within_either, within_or, within_star, within_hold, within_body, within_trap, within_after}
+use Rattle.pbs_edges.specs.Edges.{Round, Body, Trap, First, first_terminal, first_left, first_right, first_either}
+use Rattle.pbs_edges.specs.Edges.{first_or, first_star, first_hold, first_body, first_trap, Last, last_terminal}
+use Rattle.pbs_edges.specs.Edges.{last_right, last_left, last_either, last_or, last_star, last_hold, last_body}
+use Rattle.pbs_edges.specs.Edges.{last_after, last_trap, Follow, follow_seq, follow_star, follow_scope, within_left}
+use Rattle.pbs_edges.specs.Edges.{within_right, within_either, within_or, within_star, within_hold, within_body}
+use Rattle.pbs_edges.specs.Edges.{within_trap, within_after}
 
 -- the numbers of the parts
 pub record PairParts (at : Spot) (e f : Tree) (n p s : ℕ) : Type 0 where
@@ -17,10 +22,14 @@ pub record PairParts (at : Spot) (e f : Tree) (n p s : ℕ) : Type 0 where
   pub right : numbered f (n + 1 + visit_count e) (p + place_count e) (s + scope_count e) ≡ true
 
 pub pair_parts : (at : Spot) (e f : Tree) (n p s : ℕ)
-    → (nat_eq at.number n && (numbered e (n + 1) p s && numbered f (n + 1 + visit_count e) (p + place_count e) (s + scope_count e))) ≡ true → PairParts at e f n p s
+    → (nat_eq at.number n &&
+    (numbered e (n + 1) p s && numbered f (n + 1 + visit_count e) (p + place_count e) (s + scope_count e))) ≡ true
+    → PairParts at e f n p s
 pair_parts at e f n p s g =
-    let a = and_parts (nat_eq at.number n) (numbered e (n + 1) p s && numbered f (n + 1 + visit_count e) (p + place_count e) (s + scope_count e)) g in
-    let b = and_parts (numbered e (n + 1) p s) (numbered f (n + 1 + visit_count e) (p + place_count e) (s + scope_count e)) a.1 in
+    let a = and_parts (nat_eq at.number n)
+    (numbered e (n + 1) p s && numbered f (n + 1 + visit_count e) (p + place_count e) (s + scope_count e)) g in
+    let b = and_parts (numbered e (n + 1) p s)
+    (numbered f (n + 1 + visit_count e) (p + place_count e) (s + scope_count e)) a.1 in
     record { own = eqb-true at.number n a.0; left = b.0; right = b.1 }
 
 pub record ScopeParts (at : Spot) (r : ℕ) (e x h : Tree) (n p s : ℕ) : Type 0 where
@@ -28,13 +37,16 @@ pub record ScopeParts (at : Spot) (r : ℕ) (e x h : Tree) (n p s : ℕ) : Type 
   pub scope : r ≡ s
   pub body : numbered e (n + 1) p (1 + s) ≡ true
   pub trap : numbered x (n + 1 + visit_count e) (p + place_count e) (1 + s + scope_count e) ≡ true
-  pub after : numbered h (n + 1 + visit_count e + visit_count x) (p + place_count e + place_count x) (1 + s + scope_count e + scope_count x) ≡ true
+  pub after : numbered h (n + 1 + visit_count e + visit_count x) (p + place_count e + place_count x)
+      (1 + s + scope_count e + scope_count x) ≡ true
 
-pub scope_parts : (at : Spot) (r : ℕ) (e x h : Tree) (n p s : ℕ) → numbered (Scope at r e x h) n p s ≡ true → ScopeParts at r e x h n p s
+pub scope_parts : (at : Spot) (r : ℕ) (e x h : Tree) (n p s : ℕ) → numbered (Scope at r e x h) n p s ≡ true
+    → ScopeParts at r e x h n p s
 scope_parts at r e x h n p s g =
     let body : Bool = numbered e (n + 1) p (1 + s) in
     let trap : Bool = numbered x (n + 1 + visit_count e) (p + place_count e) (1 + s + scope_count e) in
-    let after : Bool = numbered h (n + 1 + visit_count e + visit_count x) (p + place_count e + place_count x) (1 + s + scope_count e + scope_count x) in
+    let after : Bool = numbered h (n + 1 + visit_count e + visit_count x) (p + place_count e + place_count x)
+    (1 + s + scope_count e + scope_count x) in
     let a = and_parts (nat_eq at.number n) (nat_eq r s && (body && (trap && after))) g in
     let b = and_parts (nat_eq r s) (body && (trap && after)) a.1 in
     let c = and_parts body (trap && after) b.1 in
@@ -50,8 +62,10 @@ pub data Place : Tree → ℕ → List Round → Type 0 where
   place_or : {at : Spot} {p : ℕ} {rs : List Round} {e f : Tree} → Place f p rs → Place (Choice at e f) p rs
   place_star : {at : Spot} {p : ℕ} {rs : List Round} {e : Tree} → Place e p rs → Place (Star at e) p rs
   place_hold : {at : Spot} {p : ℕ} {rs : List Round} {t : Term} {e : Tree} → Place e p rs → Place (Hold at t e) p rs
-  place_body : {at : Spot} {p s : ℕ} {rs : List Round} {e x h : Tree} → Place e p rs → Place (Scope at s e x h) p (Body s ∷ rs)
-  place_trap : {at : Spot} {p s : ℕ} {rs : List Round} {e x h : Tree} → Place x p rs → Place (Scope at s e x h) p (Trap s ∷ rs)
+  place_body : {at : Spot} {p s : ℕ} {rs : List Round} {e x h : Tree} → Place e p rs → Place (Scope at s e x h) p
+      (Body s ∷ rs)
+  place_trap : {at : Spot} {p s : ℕ} {rs : List Round} {e x h : Tree} → Place x p rs → Place (Scope at s e x h) p
+      (Trap s ∷ rs)
   place_after : {at : Spot} {p s : ℕ} {rs : List Round} {e x h : Tree} → Place h p rs → Place (Scope at s e x h) p rs
 
 -- a sequence, a star or a scope, numbered m, lies in the bodies and traps rs
@@ -65,8 +79,10 @@ pub data Node : Tree → ℕ → List Round → Type 0 where
   in_or : {at : Spot} {m : ℕ} {rs : List Round} {e f : Tree} → Node f m rs → Node (Choice at e f) m rs
   in_star : {at : Spot} {m : ℕ} {rs : List Round} {e : Tree} → Node e m rs → Node (Star at e) m rs
   in_hold : {at : Spot} {m : ℕ} {rs : List Round} {t : Term} {e : Tree} → Node e m rs → Node (Hold at t e) m rs
-  in_body : {at : Spot} {m s : ℕ} {rs : List Round} {e x h : Tree} → Node e m rs → Node (Scope at s e x h) m (Body s ∷ rs)
-  in_trap : {at : Spot} {m s : ℕ} {rs : List Round} {e x h : Tree} → Node x m rs → Node (Scope at s e x h) m (Trap s ∷ rs)
+  in_body : {at : Spot} {m s : ℕ} {rs : List Round} {e x h : Tree} → Node e m rs → Node (Scope at s e x h) m
+      (Body s ∷ rs)
+  in_trap : {at : Spot} {m s : ℕ} {rs : List Round} {e x h : Tree} → Node x m rs → Node (Scope at s e x h) m
+      (Trap s ∷ rs)
   in_after : {at : Spot} {m s : ℕ} {rs : List Round} {e x h : Tree} → Node h m rs → Node (Scope at s e x h) m rs
 
 pub place_from_first : {e : Tree} {p : ℕ} {rs : List Round} → First e p rs → Place e p rs
@@ -149,26 +165,47 @@ in_first p m x y z l e = cond-true (nat_lt p m) x y (lt-ltb p m l) ∙ e
 in_later : {A : Type 0} (p m : ℕ) (x y z : A) → m ≤ p → y ≡ z → cond (nat_lt p m) x y ≡ z
 in_later p m x y z l e = cond-false (nat_lt p m) x y (le-ltb p m l) ∙ e
 
-pub place_found : {e : Tree} {p : ℕ} {rs : List Round} → Place e p rs → (n b s : ℕ) → numbered e n b s ≡ true → PlaceFound e b p rs
+pub place_found : {e : Tree} {p : ℕ} {rs : List Round} → Place e p rs → (n b s : ℕ) → numbered e n b s ≡ true
+    → PlaceFound e b p rs
 place_found (place_here {at = at} {p = q}) n b s g =
     let own : q ≡ b = eqb-true q b (and_parts (nat_eq at.number n) (nat_eq q b) g).1 in
     record { low = omega arith; high = omega arith; rounds = refl }
 place_found {p = p} (place_left {at = at} {rs = rs} {e = e} {f = f} h) n b s g =
     let c = pair_parts at e f n b s g in
     let r = place_found h (n + 1) b s c.left in
-    record { low = r.low; high = let u = r.high in omega arith; rounds = in_first p (b + place_count e) _ _ rs r.high r.rounds }
+    record {
+      low = r.low;
+      high = let u = r.high in omega arith;
+      rounds = in_first p
+          (b + place_count e) _ _ rs r.high r.rounds;
+    }
 place_found {p = p} (place_right {at = at} {rs = rs} {e = e} {f = f} h) n b s g =
     let c = pair_parts at e f n b s g in
     let r = place_found h (n + 1 + visit_count e) (b + place_count e) (s + scope_count e) c.right in
-    record { low = let u = r.low in omega arith; high = let u = r.high in omega arith; rounds = in_later p (b + place_count e) _ _ rs r.low r.rounds }
+    record {
+      low = let u = r.low in omega arith;
+      high = let u = r.high in omega arith;
+      rounds = in_later p
+          (b + place_count e) _ _ rs r.low r.rounds;
+    }
 place_found {p = p} (place_either {at = at} {rs = rs} {e = e} {f = f} h) n b s g =
     let c = pair_parts at e f n b s g in
     let r = place_found h (n + 1) b s c.left in
-    record { low = r.low; high = let u = r.high in omega arith; rounds = in_first p (b + place_count e) _ _ rs r.high r.rounds }
+    record {
+      low = r.low;
+      high = let u = r.high in omega arith;
+      rounds = in_first p
+          (b + place_count e) _ _ rs r.high r.rounds;
+    }
 place_found {p = p} (place_or {at = at} {rs = rs} {e = e} {f = f} h) n b s g =
     let c = pair_parts at e f n b s g in
     let r = place_found h (n + 1 + visit_count e) (b + place_count e) (s + scope_count e) c.right in
-    record { low = let u = r.low in omega arith; high = let u = r.high in omega arith; rounds = in_later p (b + place_count e) _ _ rs r.low r.rounds }
+    record {
+      low = let u = r.low in omega arith;
+      high = let u = r.high in omega arith;
+      rounds = in_later p
+          (b + place_count e) _ _ rs r.low r.rounds;
+    }
 place_found (place_star {at = at} {e = e} h) n b s g =
     let r = place_found h (n + 1) b s (and_parts (nat_eq at.number n) (numbered e (n + 1) b s) g).1 in
     record { low = r.low; high = r.high; rounds = r.rounds }
@@ -178,23 +215,31 @@ place_found (place_hold {at = at} {e = e} h) n b s g =
 place_found {p = p} (place_body {at = at} {s = t} {rs = rs} {e = e} {x = x} {h = h} d) n b s g =
     let c = scope_parts at t e x h n b s g in
     let r = place_found d (n + 1) b (1 + s) c.body in
-    record { low = r.low; high = let u = r.high in omega arith; rounds = in_first p (b + place_count e) _ _ (Body t ∷ rs) r.high (ap (λ qs. Body t ∷ qs) r.rounds) }
+    record {
+      low = r.low;
+      high = let u = r.high in omega arith;
+      rounds = in_first p (b + place_count e) _ _
+          (Body t ∷ rs) r.high (ap (λ qs. Body t ∷ qs) r.rounds);
+    }
 place_found {p = p} (place_trap {at = at} {s = t} {rs = rs} {e = e} {x = x} {h = h} d) n b s g =
     let c = scope_parts at t e x h n b s g in
     let r = place_found d (n + 1 + visit_count e) (b + place_count e) (1 + s + scope_count e) c.trap in
     record {
       low = let u = r.low in omega arith;
       high = let u = r.high in omega arith;
-      rounds = in_later p (b + place_count e) _ _ (Trap t ∷ rs) r.low (in_first p (b + place_count e + place_count x) _ _ (Trap t ∷ rs) r.high (ap (λ qs. Trap t ∷ qs) r.rounds));
+      rounds = in_later p (b + place_count e) _ _ (Trap t ∷ rs) r.low
+          (in_first p (b + place_count e + place_count x) _ _ (Trap t ∷ rs) r.high (ap (λ qs. Trap t ∷ qs) r.rounds));
     }
 place_found {p = p} (place_after {at = at} {s = t} {rs = rs} {e = e} {x = x} {h = h} d) n b s g =
     let c = scope_parts at t e x h n b s g in
-    let r = place_found d (n + 1 + visit_count e + visit_count x) (b + place_count e + place_count x) (1 + s + scope_count e + scope_count x) c.after in
+    let r = place_found d (n + 1 + visit_count e + visit_count x) (b + place_count e + place_count x)
+    (1 + s + scope_count e + scope_count x) c.after in
     let low : b + place_count e + place_count x ≤ p = r.low in
     record {
       low = omega arith;
       high = let u = r.high in omega arith;
-      rounds = in_later p (b + place_count e) _ _ rs (omega arith) (in_later p (b + place_count e + place_count x) _ _ rs low r.rounds);
+      rounds = in_later p (b + place_count e) _ _ rs (omega arith)
+          (in_later p (b + place_count e + place_count x) _ _ rs low r.rounds);
     }
 
 -- node m is one of the tree's, and its number tells the scopes round it
@@ -210,7 +255,8 @@ own_node m b x y e = cond-true (nat_eq m b) x y (eq-eqb m b e)
 other_node : {A : Type 0} (m b : ℕ) (x y z : A) → b < m → y ≡ z → cond (nat_eq m b) x y ≡ z
 other_node m b x y z l e = cond-false (nat_eq m b) x y (ne_eqb m b (λ f. omega arith)) ∙ e
 
-pub node_found : {e : Tree} {m : ℕ} {rs : List Round} → Node e m rs → (b p s : ℕ) → numbered e b p s ≡ true → NodeFound e b m rs
+pub node_found : {e : Tree} {m : ℕ} {rs : List Round} → Node e m rs → (b p s : ℕ) → numbered e b p s ≡ true
+    → NodeFound e b m rs
 node_found (node_seq {at = at} {e = e} {f = f}) b p s g =
     let c = pair_parts at e f b p s g in let own = c.own in
     record { low = omega arith; high = omega arith; rounds = own_node at.number b _ _ own }
@@ -225,7 +271,12 @@ node_found {m = m} (in_left {at = at} {rs = rs} {e = e} {f = f} d) b p s g =
     let r = node_found d (b + 1) p s c.left in
     let low : b + 1 ≤ m = r.low in
     let high : m < b + 1 + visit_count e = r.high in
-    record { low = omega arith; high = omega arith; rounds = other_node m b _ _ rs (omega arith) (in_first m (b + 1 + visit_count e) _ _ rs high r.rounds) }
+    record {
+      low = omega arith;
+      high = omega arith;
+      rounds = other_node m b _ _ rs (omega arith)
+          (in_first m (b + 1 + visit_count e) _ _ rs high r.rounds);
+    }
 node_found {m = m} (in_right {at = at} {rs = rs} {e = e} {f = f} d) b p s g =
     let c = pair_parts at e f b p s g in
     let r = node_found d (b + 1 + visit_count e) (p + place_count e) (s + scope_count e) c.right in
@@ -240,7 +291,12 @@ node_found {m = m} (in_either {at = at} {rs = rs} {e = e} {f = f} d) b p s g =
     let r = node_found d (b + 1) p s c.left in
     let low : b + 1 ≤ m = r.low in
     let high : m < b + 1 + visit_count e = r.high in
-    record { low = omega arith; high = omega arith; rounds = other_node m b _ _ rs (omega arith) (in_first m (b + 1 + visit_count e) _ _ rs high r.rounds) }
+    record {
+      low = omega arith;
+      high = omega arith;
+      rounds = other_node m b _ _ rs (omega arith)
+          (in_first m (b + 1 + visit_count e) _ _ rs high r.rounds);
+    }
 node_found {m = m} (in_or {at = at} {rs = rs} {e = e} {f = f} d) b p s g =
     let c = pair_parts at e f b p s g in
     let r = node_found d (b + 1 + visit_count e) (p + place_count e) (s + scope_count e) c.right in
@@ -253,11 +309,21 @@ node_found {m = m} (in_or {at = at} {rs = rs} {e = e} {f = f} d) b p s g =
 node_found {m = m} (in_star {at = at} {rs = rs} {e = e} d) b p s g =
     let r = node_found d (b + 1) p s (and_parts (nat_eq at.number b) (numbered e (b + 1) p s) g).1 in
     let low : b + 1 ≤ m = r.low in
-    record { low = omega arith; high = let u = r.high in omega arith; rounds = other_node m b _ _ rs (omega arith) r.rounds }
+    record {
+      low = omega arith;
+      high = let u = r.high in omega arith;
+      rounds = other_node m b _ _ rs
+          (omega arith) r.rounds;
+    }
 node_found {m = m} (in_hold {at = at} {rs = rs} {e = e} d) b p s g =
     let r = node_found d (b + 1) p s (and_parts (nat_eq at.number b) (numbered e (b + 1) p s) g).1 in
     let low : b + 1 ≤ m = r.low in
-    record { low = omega arith; high = let u = r.high in omega arith; rounds = other_node m b _ _ rs (omega arith) r.rounds }
+    record {
+      low = omega arith;
+      high = let u = r.high in omega arith;
+      rounds = other_node m b _ _ rs
+          (omega arith) r.rounds;
+    }
 node_found {m = m} (in_body {at = at} {s = t} {rs = rs} {e = e} {x = x} {h = h} d) b p s g =
     let c = scope_parts at t e x h b p s g in
     let r = node_found d (b + 1) p (1 + s) c.body in
@@ -266,7 +332,8 @@ node_found {m = m} (in_body {at = at} {s = t} {rs = rs} {e = e} {x = x} {h = h} 
     record {
       low = omega arith;
       high = omega arith;
-      rounds = other_node m b _ _ (Body t ∷ rs) (omega arith) (in_first m (b + 1 + visit_count e) _ _ (Body t ∷ rs) high (ap (λ qs. Body t ∷ qs) r.rounds));
+      rounds = other_node m b _ _ (Body t ∷ rs) (omega arith)
+          (in_first m (b + 1 + visit_count e) _ _ (Body t ∷ rs) high (ap (λ qs. Body t ∷ qs) r.rounds));
     }
 node_found {m = m} (in_trap {at = at} {s = t} {rs = rs} {e = e} {x = x} {h = h} d) b p s g =
     let c = scope_parts at t e x h b p s g in
@@ -277,16 +344,20 @@ node_found {m = m} (in_trap {at = at} {s = t} {rs = rs} {e = e} {x = x} {h = h} 
       low = omega arith;
       high = omega arith;
       rounds = other_node m b _ _ (Trap t ∷ rs) (omega arith) (in_later m (b + 1 + visit_count e) _ _ (Trap t ∷ rs) low
-          (in_first m (b + 1 + visit_count e + visit_count x) _ _ (Trap t ∷ rs) high (ap (λ qs. Trap t ∷ qs) r.rounds)));
+          (in_first m (b + 1 + visit_count e + visit_count x) _ _ (Trap t ∷ rs) high
+          (ap (λ qs. Trap t ∷ qs) r.rounds)));
     }
 node_found {m = m} (in_after {at = at} {s = t} {rs = rs} {e = e} {x = x} {h = h} d) b p s g =
     let c = scope_parts at t e x h b p s g in
-    let r = node_found d (b + 1 + visit_count e + visit_count x) (p + place_count e + place_count x) (1 + s + scope_count e + scope_count x) c.after in
+    let r = node_found d (b + 1 + visit_count e + visit_count x) (p + place_count e + place_count x)
+    (1 + s + scope_count e + scope_count x) c.after in
     let low : b + 1 + visit_count e + visit_count x ≤ m = r.low in
     record {
       low = omega arith;
       high = let u = r.high in omega arith;
-      rounds = other_node m b _ _ rs (omega arith) (in_later m (b + 1 + visit_count e) _ _ rs (omega arith) (in_later m (b + 1 + visit_count e + visit_count x) _ _ rs low r.rounds));
+      rounds = other_node m b _ _ rs (omega arith)
+          (in_later m (b + 1 + visit_count e) _ _ rs (omega arith)
+          (in_later m (b + 1 + visit_count e + visit_count x) _ _ rs low r.rounds));
     }
 
 -- the three lists of an edge, told by its numbers
@@ -295,7 +366,8 @@ pub record EdgeRounds (main : Tree) (p q n : ℕ) (rs ls fs : List Round) : Type
   pub left : place_rounds main 0 p ≡ rs ++ ls
   pub entered : place_rounds main 0 q ≡ rs ++ fs
 
-pub edge_rounds : {main : Tree} {p q n : ℕ} {rs ls fs : List Round} → IsNumbered main → Follow main p q n rs ls fs → EdgeRounds main p q n rs ls fs
+pub edge_rounds : {main : Tree} {p q n : ℕ} {rs ls fs : List Round} → IsNumbered main → Follow main p q n rs ls fs
+    → EdgeRounds main p q n rs ls fs
 edge_rounds g f = record {
   above = (node_found (node_of f) 0 0 0 g).rounds;
   left = (place_found (place_left_by f) 0 0 0 g).rounds;

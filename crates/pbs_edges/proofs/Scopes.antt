@@ -1,13 +1,16 @@
 -- Where scopes are numbered, a scope's number tells its body and its trap.
-use Rattle.std.proofs.Common.{◌≡◌, ℕ, ◌+◌, ◌-◌, ◌<◌, ◌≤◌, Bool, true, cond, ◌&&◌, ◌||◌, inl, inr, List, arith, sym, ◌∙◌, subst}
+use Rattle.std.proofs.Common.{◌≡◌, ℕ, ◌+◌, ◌-◌, ◌<◌, ◌≤◌, Bool, true, cond, ◌&&◌, ◌||◌, inl, inr, List, arith, sym, ◌∙◌}
+use Rattle.std.proofs.Common.{subst}
 use Rattle.std.specs.Prelude.{nat_eq, nat_lt}
-use Rattle.std.proofs.lemmas.Bool.{false≢true, eqb-true, eq-eqb, ne_eqb, and_parts, or_cases, lt-ltb, le-ltb, cond-true, cond-false}
+use Rattle.std.proofs.lemmas.Bool.{false≢true, eqb-true, eq-eqb, ne_eqb, and_parts, or_cases, lt-ltb, le-ltb, cond-true}
+use Rattle.std.proofs.lemmas.Bool.{cond-false}
 use Rattle.pbs_ast.specs.Trees.{Tree, Spot, Empty, Terminal, Action, Seq, Choice, Star, Hold, Scope}
 use Rattle.pbs_derive.specs.Derivations.{covers, alive, trips, live, all_hold, repeats, some_within}
 use Rattle.pbs_ast.specs.Sound.{scope_count, scopes_from}
 use Rattle.pbs_edges.proofs.Tests.{scope-gives}
 use Rattle.pbs_derive.proofs.Positions.{split_to}
-use Rattle.pbs_edges.proofs.Instances.{Lives, lives_here, lives_left, lives_right, lives_either, lives_or, lives_star, lives_hold, lives_body, lives_trap, lives_after}
+use Rattle.pbs_edges.proofs.Instances.{Lives, lives_here, lives_left, lives_right, lives_either, lives_or, lives_star}
+use Rattle.pbs_edges.proofs.Instances.{lives_hold, lives_body, lives_trap, lives_after}
 
 -- the body and the trap of a scope
 pub record Parts : Type 0 where
@@ -25,7 +28,8 @@ parts (Star at e) s t = parts e s t
 parts (Hold at c e) s t = parts e s t
 parts (Scope at r e x h) s t = cond (nat_eq t s) (record { body = e; trap = x })
     (cond (nat_lt t (1 + s + scope_count e)) (parts e (1 + s) t)
-    (cond (nat_lt t (1 + s + scope_count e + scope_count x)) (parts x (1 + s + scope_count e) t) (parts h (1 + s + scope_count e + scope_count x) t)))
+    (cond (nat_lt t (1 + s + scope_count e + scope_count x)) (parts x (1 + s + scope_count e) t)
+    (parts h (1 + s + scope_count e + scope_count x) t)))
 
 -- scope t is one of the tree's, with this body and trap
 pub record Found (e : Tree) (s t : ℕ) (b y : Tree) : Type 0 where
@@ -55,19 +59,39 @@ found (lives_here {at = at} {s = r} {e = e} {x = x} {h = h} l q c) s g =
 found {t = t} (lives_left {e = e} {f = f} h) s g =
     let b = and_parts (scopes_from e s) (scopes_from f (s + scope_count e)) g in
     let r = found h s b.0 in
-    record { low = r.low; high = omega arith; same = cond-true (nat_lt t (s + scope_count e)) _ _ (lt-ltb t (s + scope_count e) r.high) ∙ r.same }
+    record {
+      low = r.low;
+      high = omega arith;
+      same = cond-true (nat_lt t (s + scope_count e)) _ _
+          (lt-ltb t (s + scope_count e) r.high) ∙ r.same;
+    }
 found {t = t} (lives_right {e = e} {f = f} l l' c h) s g =
     let b = and_parts (scopes_from e s) (scopes_from f (s + scope_count e)) g in
     let r = found h (s + scope_count e) b.1 in
-    record { low = omega arith; high = omega arith; same = cond-false (nat_lt t (s + scope_count e)) _ _ (le-ltb t (s + scope_count e) r.low) ∙ r.same }
+    record {
+      low = omega arith;
+      high = omega arith;
+      same = cond-false (nat_lt t (s + scope_count e)) _ _
+          (le-ltb t (s + scope_count e) r.low) ∙ r.same;
+    }
 found {t = t} (lives_either {e = e} {f = f} h) s g =
     let b = and_parts (scopes_from e s) (scopes_from f (s + scope_count e)) g in
     let r = found h s b.0 in
-    record { low = r.low; high = omega arith; same = cond-true (nat_lt t (s + scope_count e)) _ _ (lt-ltb t (s + scope_count e) r.high) ∙ r.same }
+    record {
+      low = r.low;
+      high = omega arith;
+      same = cond-true (nat_lt t (s + scope_count e)) _ _
+          (lt-ltb t (s + scope_count e) r.high) ∙ r.same;
+    }
 found {t = t} (lives_or {e = e} {f = f} h) s g =
     let b = and_parts (scopes_from e s) (scopes_from f (s + scope_count e)) g in
     let r = found h (s + scope_count e) b.1 in
-    record { low = omega arith; high = omega arith; same = cond-false (nat_lt t (s + scope_count e)) _ _ (le-ltb t (s + scope_count e) r.low) ∙ r.same }
+    record {
+      low = omega arith;
+      high = omega arith;
+      same = cond-false (nat_lt t (s + scope_count e)) _ _
+          (le-ltb t (s + scope_count e) r.low) ∙ r.same;
+    }
 found (lives_star l l' c h) s g = let r = found h s g in record { low = r.low; high = r.high; same = r.same }
 found (lives_hold c h) s g = let r = found h s g in record { low = r.low; high = r.high; same = r.same }
 found {t = t} (lives_body {at = at} {s = r} {e = e} {x = x} {h = h} q l) s g =
@@ -77,7 +101,8 @@ found {t = t} (lives_body {at = at} {s = r} {e = e} {x = x} {h = h} q l) s g =
     record {
       low = omega arith;
       high = let u = f.high in omega arith;
-      same = cond-false (nat_eq t s) _ _ (ne_eqb t s (λ e. omega arith)) ∙ (cond-true (nat_lt t (1 + s + scope_count e)) _ _ (lt-ltb t (1 + s + scope_count e) f.high) ∙ f.same);
+      same = cond-false (nat_eq t s) _ _ (ne_eqb t s (λ e. omega arith)) ∙
+          (cond-true (nat_lt t (1 + s + scope_count e)) _ _ (lt-ltb t (1 + s + scope_count e) f.high) ∙ f.same);
     }
 found {t = t} (lives_trap {at = at} {s = r} {e = e} {x = x} {h = h} q d l) s g =
     let n = scope_numbers at r e x h s g in
@@ -86,8 +111,10 @@ found {t = t} (lives_trap {at = at} {s = r} {e = e} {x = x} {h = h} q d l) s g =
     record {
       low = omega arith;
       high = let u = f.high in omega arith;
-      same = cond-false (nat_eq t s) _ _ (ne_eqb t s (λ e. omega arith)) ∙ (cond-false (nat_lt t (1 + s + scope_count e)) _ _ (le-ltb t (1 + s + scope_count e) low)
-          ∙ (cond-true (nat_lt t (1 + s + scope_count e + scope_count x)) _ _ (lt-ltb t (1 + s + scope_count e + scope_count x) f.high) ∙ f.same));
+      same = cond-false (nat_eq t s) _ _ (ne_eqb t s (λ e. omega arith)) ∙
+          (cond-false (nat_lt t (1 + s + scope_count e)) _ _ (le-ltb t (1 + s + scope_count e) low)
+          ∙ (cond-true (nat_lt t (1 + s + scope_count e + scope_count x)) _ _
+          (lt-ltb t (1 + s + scope_count e + scope_count x) f.high) ∙ f.same));
     }
 found {t = t} (lives_after {at = at} {s = r} {e = e} {x = x} {h = h} q d l) s g =
     let n = scope_numbers at r e x h s g in
@@ -96,22 +123,26 @@ found {t = t} (lives_after {at = at} {s = r} {e = e} {x = x} {h = h} q d l) s g 
     record {
       low = omega arith;
       high = let u = f.high in omega arith;
-      same = cond-false (nat_eq t s) _ _ (ne_eqb t s (λ e. omega arith)) ∙ (cond-false (nat_lt t (1 + s + scope_count e)) _ _ (le-ltb t (1 + s + scope_count e) (omega arith))
-          ∙ (cond-false (nat_lt t (1 + s + scope_count e + scope_count x)) _ _ (le-ltb t (1 + s + scope_count e + scope_count x) low) ∙ f.same));
+      same = cond-false (nat_eq t s) _ _ (ne_eqb t s (λ e. omega arith)) ∙
+          (cond-false (nat_lt t (1 + s + scope_count e)) _ _ (le-ltb t (1 + s + scope_count e) (omega arith))
+          ∙ (cond-false (nat_lt t (1 + s + scope_count e + scope_count x)) _ _
+          (le-ltb t (1 + s + scope_count e + scope_count x) low) ∙ f.same));
     }
 
 module _ (v : List ℕ) where
   -- a live instance of the definition is one of the relation
-  pub lives_from_live : (e : Tree) (i k t a : ℕ) → i ≤ k → live e v i k t a ≡ true → (b : Tree) × (y : Tree) × Lives v e i k t a b y
+  pub lives_from_live : (e : Tree) (i k t a : ℕ) → i ≤ k → live e v i k t a ≡ true → (b : Tree) × (y : Tree)
+      × Lives v e i k t a b y
   lives_from_live (Empty at) i k t a l h = absurd (false≢true h)
   lives_from_live (Terminal at q c) i k t a l h = absurd (false≢true h)
   lives_from_live (Action at c) i k t a l h = absurd (false≢true h)
-  lives_from_live (Seq at e f) i k t a l h = elim (or_cases (live e v i k t a) (some_within i k (λ m. covers e v i m && live f v m k t a)) h) [
-    | inl d ↦ let r = lives_from_live e i k t a l d in (r.0, r.1, lives_left r.2)
-    | inr d ↦
-        let c = split_to i k (λ m. covers e v i m) (λ m. live f v m k t a) d in
-        let r = lives_from_live f c.0 k t a c.2 c.4 in (r.0, r.1, lives_right c.1 c.2 c.3 r.2)
-  ]
+  lives_from_live (Seq at e f) i k t a l h = elim
+      (or_cases (live e v i k t a) (some_within i k (λ m. covers e v i m && live f v m k t a)) h) [
+        | inl d ↦ let r = lives_from_live e i k t a l d in (r.0, r.1, lives_left r.2)
+        | inr d ↦
+            let c = split_to i k (λ m. covers e v i m) (λ m. live f v m k t a) d in
+            let r = lives_from_live f c.0 k t a c.2 c.4 in (r.0, r.1, lives_right c.1 c.2 c.3 r.2)
+      ]
   lives_from_live (Choice at e f) i k t a l h = elim (or_cases (live e v i k t a) (live f v i k t a) h) [
     | inl d ↦ let r = lives_from_live e i k t a l d in (r.0, r.1, lives_either r.2)
     | inr d ↦ let r = lives_from_live f i k t a l d in (r.0, r.1, lives_or r.2)
@@ -123,7 +154,8 @@ module _ (v : List ℕ) where
       let d = and_parts (live e v i k t a) (all_hold c v i k) h in
       let r = lives_from_live e i k t a l d.0 in (r.0, r.1, lives_hold d.1 r.2)
   lives_from_live (Scope at s e x h) i k t a l g =
-      elim (scope-gives i k (trips e x v i) (live e v i k t a || ((nat_eq t s && nat_eq i a) && alive e v i k)) (λ m. live h v m k t a) g) [
+      elim (scope-gives i k (trips e x v i) (live e v i k t a || ((nat_eq t s && nat_eq i a) && alive e v i k))
+      (λ m. live h v m k t a) g) [
         | inl c ↦ elim (or_cases (live e v i k t a) ((nat_eq t s && nat_eq i a) && alive e v i k) c.1) [
           | inl d ↦ let r = lives_from_live e i k t a l d in (r.0, r.1, lives_body c.0 r.2)
           | inr d ↦

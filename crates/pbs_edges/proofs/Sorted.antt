@@ -1,5 +1,6 @@
 -- The sorted list of the follow edges.
-use Rattle.std.proofs.Common.{◌≡◌, ℕ, zero, suc, ◌+◌, ◌<◌, ◌≤◌, Bool, true, false, cond, ◌&&◌, ◌⊎◌, inl, inr, List, [], ◌∷◌}
+use Rattle.std.proofs.Common.{◌≡◌, ℕ, zero, suc, ◌+◌, ◌<◌, ◌≤◌, Bool, true, false, cond, ◌&&◌, ◌⊎◌, inl, inr, List, []}
+use Rattle.std.proofs.Common.{◌∷◌}
 use Rattle.std.proofs.Common.{◌↔◌, length, get_or, sum_by, refl, sym, ◌∙◌, ap, subst, arith, add-one}
 use Rattle.std.specs.Prelude.{nat_eq, nat_lt, slice_get, Some, Contains}
 use Rattle.std.proofs.lemmas.Option.{same_Some}
@@ -7,9 +8,11 @@ use Rattle.std.proofs.Common.{Ordering, Less, Equal, Greater, is_lt, nat_cmp}
 use Rattle.std.specs.Ordering.{ordering_then}
 use Rattle.std.specs.List.{AllAdjacentBelow}
 use Rattle.std.specs.List.Sorted.{IsPermutation, IsStrictlyIncreasing}
-use Rattle.std.proofs.lemmas.List.Sorted.{Contains-permutation, length_permutation, IsPermutation-sym, sum_by-IsPermutation}
+use Rattle.std.proofs.lemmas.List.Sorted.{Contains-permutation, length_permutation, IsPermutation-sym}
+use Rattle.std.proofs.lemmas.List.Sorted.{sum_by-IsPermutation}
 use Rattle.std.proofs.lemmas.List.Sums.{sum_by-cons}
-use Rattle.std.proofs.lemmas.Bool.{false≢true, cases_order, cases_Bool, cond-true, cond-false, lt-ltb, le-ltb, eq-eqb, eqb-true, and_parts, and_from}
+use Rattle.std.proofs.lemmas.Bool.{false≢true, cases_order, cases_Bool, cond-true, cond-false, lt-ltb, le-ltb, eq-eqb}
+use Rattle.std.proofs.lemmas.Bool.{eqb-true, and_parts, and_from}
 use Rattle.pbs_ast.specs.Trees.{Tree}
 use Rattle.pbs_ast.specs.Sound.{place_count, IsCounted}
 use Rattle.pbs_edges.specs.declared.edge.Edge.{Edge}
@@ -96,16 +99,17 @@ same_edge d e p q r =
 
 before_or_same : (d e : Edge) → is_lt (ordering_then (nat_cmp e.from d.from)
     (ordering_then (nat_cmp e.to d.to) (nat_cmp e.node d.node))) ≡ false → IsBefore d e ⊎ (d ≡ e)
-before_or_same d e h = elim (first_differs e.from d.from (ordering_then (nat_cmp e.to d.to) (nat_cmp e.node d.node)) h) [
-  | inl l ↦ inl (inl l)
-  | inr p ↦ elim (first_differs e.to d.to (nat_cmp e.node d.node) p.1) [
-    | inl l ↦ inl (inr (p.0, inl l))
-    | inr q ↦ elim (last_differs e.node d.node q.1) [
-      | inl l ↦ inl (inr (p.0, inr (q.0, l)))
-      | inr r ↦ inr (same_edge d e p.0 q.0 r)
+before_or_same d e h = elim
+    (first_differs e.from d.from (ordering_then (nat_cmp e.to d.to) (nat_cmp e.node d.node)) h) [
+      | inl l ↦ inl (inl l)
+      | inr p ↦ elim (first_differs e.to d.to (nat_cmp e.node d.node) p.1) [
+        | inl l ↦ inl (inr (p.0, inl l))
+        | inr q ↦ elim (last_differs e.node d.node q.1) [
+          | inl l ↦ inl (inr (p.0, inr (q.0, l)))
+          | inr r ↦ inr (same_edge d e p.0 q.0 r)
+        ]
+      ]
     ]
-  ]
-]
 
 -- How often an edge stands in a list
 
@@ -182,16 +186,17 @@ pub rise_after_sort : (xs ys : List Edge) → Distinct xs → IsPermutation xs y
     (nat_cmp (get_or ys (k + 1) d).to (get_or ys k d).to)
     (nat_cmp (get_or ys (k + 1) d).node (get_or ys k d).node))) ≡ false)
     → AllAdjacentBelow IsBefore ys (length ys)
-rise_after_sort xs ys once moved up k d l = elim (before_or_same (get_or ys k d) (get_or ys (k + 1) d) (up k d (omega arith) l)) [
-  | inl before ↦ before
-  | inr e ↦
-      let x : Edge = get_or ys k d in
-      let a : times x xs ≤ 1 = times-once x xs once in
-      let b : times x ys ≡ times x xs = times-permuted x xs ys moved in
-      let next : get_or ys (suc k) d ≡ x = rw add-one at (sym e) in
-      let c : 2 ≤ times x ys = times-twice x ys k d (omega arith) refl next in
-      absurd (omega arith)
-]
+rise_after_sort xs ys once moved up k d l = elim
+    (before_or_same (get_or ys k d) (get_or ys (k + 1) d) (up k d (omega arith) l)) [
+      | inl before ↦ before
+      | inr e ↦
+          let x : Edge = get_or ys k d in
+          let a : times x xs ≤ 1 = times-once x xs once in
+          let b : times x ys ≡ times x xs = times-permuted x xs ys moved in
+          let next : get_or ys (suc k) d ≡ x = rw add-one at (sym e) in
+          let c : 2 ≤ times x ys = times-twice x ys k d (omega arith) refl next in
+          absurd (omega arith)
+    ]
 
 -- what was listed and sorted are the edges of the tree
 pub are_edges : (main : Tree) (edges : Edges) (listed : List Edge) → IsCounted main → edges.starts ≡ first_places main

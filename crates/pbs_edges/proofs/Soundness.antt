@@ -1,5 +1,6 @@
 -- Where no scope is refused, no scope overlaps, and places that stand at one position are together.
-use Rattle.std.proofs.Common.{◌≡◌, ℕ, zero, suc, ◌≤◌, true, false, ◌⊎◌, inl, inr, List, [], ◌∷◌, arith, refl, sym, ◌∙◌, ap, subst}
+use Rattle.std.proofs.Common.{◌≡◌, ℕ, zero, suc, ◌≤◌, true, false, ◌⊎◌, inl, inr, List, [], ◌∷◌, arith, refl, sym, ◌∙◌}
+use Rattle.std.proofs.Common.{ap, subst}
 use Rattle.std.specs.Prelude.{slice_index}
 use Rattle.std.proofs.lemmas.Bool.{both_ways}
 use Rattle.pbs_ast.specs.Trees.{Tree}
@@ -15,7 +16,14 @@ use Rattle.pbs_edges.proofs.Arrivals.{arrival, lives-less, follows}
 use Rattle.pbs_edges.proofs.Scopes.{Parts, found, lives_from_live}
 
 edge_of : {v : List ℕ} {e : Tree} {i k p : ℕ} {rs fs : List Round} → Arrival v e i k p rs fs → ScopedEdge
-edge_of {p = p} {rs = rs} {fs = fs} d = record { from = d.from; to = p; node = d.node; above = rs; left = d.left; entered = fs }
+edge_of {p = p} {rs = rs} {fs = fs} d = record {
+  from = d.from;
+  to = p;
+  node = d.node;
+  above = rs;
+  left = d.left;
+  entered = fs;
+}
 
 -- up to k: places that stand at k are ends of a double walk, and each scope has one live instance at most
 pub record Sound (main : Tree) (v : List ℕ) (k : ℕ) : Type 0 where
@@ -29,16 +37,20 @@ module _ (main : Tree) (number : scopes_from main 0 ≡ true) (v : List ℕ) whe
       let start : c.start ≡ d.start = sound.single t c.start d.start c.body c.trap d.body d.trap c.lives d.lives in
       let f = found c.lives 0 number in
       let g = found d.lives 0 number in
-      let same : ◌≡◌ {A = Parts} (record { body = c.body; trap = c.trap }) (record { body = d.body; trap = d.trap }) = sym f.same ∙ g.same in
+      let same : ◌≡◌ {A = Parts} (record { body = c.body; trap = c.trap })
+      (record { body = d.body; trap = d.trap }) = sym f.same ∙ g.same in
       let body : c.body ≡ d.body = ap (λ (r : Parts). r.body) same in
       let trap : c.trap ≡ d.trap = ap (λ (r : Parts). r.trap) same in
       let moved : trips d.body d.trap v d.start (suc k) ≡ true =
       subst (λ m. trips d.body d.trap v m (suc k) ≡ true) start
-      (subst (λ w. trips d.body w v c.start (suc k) ≡ true) trap (subst (λ w. trips w c.trap v c.start (suc k) ≡ true) body c.outcome)) in
+      (subst (λ w. trips d.body w v c.start (suc k) ≡ true) trap
+      (subst (λ w. trips w c.trap v c.start (suc k) ≡ true) body c.outcome)) in
       both_ways (trips d.body d.trap v d.start (suc k)) d.outcome moved
 
-  agree : (k p q : ℕ) (rs fs ts gs : List Round) → Sound main v k → (c : Arrival v main 0 k p rs fs) (d : Arrival v main 0 k q ts gs)
-      → (s : ℕ) → Among c.left (Trap s) → ((Among ts (Body s) ⊎ Among ts (Trap s)) ⊎ (Among d.left (Body s) ⊎ Among d.left (Trap s)))
+  agree : (k p q : ℕ) (rs fs ts gs : List Round) → Sound main v k → (c : Arrival v main 0 k p rs fs)
+      (d : Arrival v main 0 k q ts gs)
+      → (s : ℕ) → Among c.left (Trap s) →
+      ((Among ts (Body s) ⊎ Among ts (Trap s)) ⊎ (Among d.left (Body s) ⊎ Among d.left (Trap s)))
       → (Among d.left (Trap s) → ⊥) → ⊥
   agree k p q rs fs ts gs sound c d s aborts leaves keeps =
       let yes = c.left_well.aborted s aborts in
@@ -48,7 +60,8 @@ module _ (main : Tree) (number : scopes_from main 0 ≡ true) (v : List ℕ) whe
       ]
 
   -- two edges of the step lemma extend a double walk
-  extend : (k p q : ℕ) (rs fs ts gs : List Round) → Sound main v k → (c : Arrival v main 0 k p rs fs) (d : Arrival v main 0 k q ts gs)
+  extend : (k p q : ℕ) (rs fs ts gs : List Round) → Sound main v k → (c : Arrival v main 0 k p rs fs)
+      (d : Arrival v main 0 k q ts gs)
       → (bs : List ScopedEdge) × (cs : List ScopedEdge) × DoubleWalk main (edge_of c ∷ bs) (edge_of d ∷ cs)
   unfolding edge_of
   extend k p q rs fs ts gs sound c d =
@@ -64,7 +77,8 @@ module _ (main : Tree) (number : scopes_from main 0 ≡ true) (v : List ℕ) whe
 
   module _ (accepted : (s : ℕ) → IsRefused main s → ⊥) where
     -- no instance begins at k + 1 while another one is live
-    apart : (k t a c : ℕ) (b y d z : Tree) → Sound main v k → Lives v main 0 (suc k) t a b y → Lives v main 0 (suc k) t c d z → a ≤ k → c ≡ suc k → ⊥
+    apart : (k t a c : ℕ) (b y d z : Tree) → Sound main v k → Lives v main 0 (suc k) t a b y → Lives v main 0
+        (suc k) t c d z → a ≤ k → c ≡ suc k → ⊥
     unfolding edge_of
     apart k t a c b y d z sound old new before now =
         let f = follows old (omega arith) in
@@ -72,7 +86,8 @@ module _ (main : Tree) (number : scopes_from main 0 ≡ true) (v : List ℕ) whe
         let w = extend k f.place g.place f.above f.entered g.above g.entered sound f.arrived g.arrived in
         accepted t (edge_of f.arrived, edge_of g.arrived, w.0, w.1, w.2, inl (f.inside before, inl (g.enters now)))
 
-    single_next : (k t a c : ℕ) (b y d z : Tree) → Sound main v k → Lives v main 0 (suc k) t a b y → Lives v main 0 (suc k) t c d z → a ≡ c
+    single_next : (k t a c : ℕ) (b y d z : Tree) → Sound main v k → Lives v main 0 (suc k) t a b y → Lives v main 0
+        (suc k) t c d z → a ≡ c
     single_next k t a c b y d z sound l m =
         let p = lives-within l in
         let q = lives-within m in

@@ -1,18 +1,22 @@
 -- The step lemma: by which edge a place that stands was reached.
-use Rattle.std.proofs.Common.{◌≡◌, ℕ, suc, ◌+◌, ◌-◌, ◌<◌, ◌≤◌, Bool, true, false, ◌&&◌, ◌||◌, ◌⊎◌, inl, inr, List, [], ◌∷◌, arith, refl, subst}
+use Rattle.std.proofs.Common.{◌≡◌, ℕ, suc, ◌+◌, ◌-◌, ◌<◌, ◌≤◌, Bool, true, false, ◌&&◌, ◌||◌, ◌⊎◌, inl, inr, List, []}
+use Rattle.std.proofs.Common.{◌∷◌, arith, refl, subst}
 use Rattle.std.specs.Prelude.{nat_eq, slice_index}
 use Rattle.std.proofs.lemmas.Bool.{eqb-true, eq-eqb, and_parts, and_from, or_cases, or_left, or_right}
 use Rattle.bool_terms.specs.Terms.{Term, holds}
 use Rattle.pbs_ast.specs.Trees.{Tree, Spot, Empty, Terminal, Action, Seq, Choice, Star, Hold, Scope}
 use Rattle.pbs_derive.specs.Derivations.{covers, alive, stands, trips, all_hold, repeats, some_within}
 use Rattle.pbs_ast.specs.Trees.{nullable, fits}
-use Rattle.pbs_edges.specs.Edges.{Round, Body, Trap, Among, Last, last_terminal, last_right, last_left, last_either, last_or, last_star, last_hold, last_body, last_after, last_trap, Follow}
+use Rattle.pbs_edges.specs.Edges.{Round, Body, Trap, Among, Last, last_terminal, last_right, last_left, last_either}
+use Rattle.pbs_edges.specs.Edges.{last_or, last_star, last_hold, last_body, last_after, last_trap, Follow}
 use Rattle.pbs_derive.proofs.Positions.{split_to, split_from, all_hold_to, all_hold_from}
 use Rattle.pbs_derive.proofs.EmptyStretch.{covers_to_nullable}
 use Rattle.pbs_derive.proofs.Stretches.{lasts}
 use Rattle.pbs_derive.proofs.Places.{stands_to_alive}
-use Rattle.pbs_edges.proofs.Tests.{Quiet, IsFirstPass, scope-gives, scope-from_body, scope-from_after, at_or_below, repeats-last}
-use Rattle.pbs_edges.proofs.Instances.{Lives, lives_here, lives_left, lives_right, lives_either, lives_or, lives_star, lives_hold, lives_body, lives_trap, lives_after}
+use Rattle.pbs_edges.proofs.Tests.{Quiet, IsFirstPass, scope-gives, scope-from_body, scope-from_after, at_or_below}
+use Rattle.pbs_edges.proofs.Tests.{repeats-last}
+use Rattle.pbs_edges.proofs.Instances.{Lives, lives_here, lives_left, lives_right, lives_either, lives_or, lives_star}
+use Rattle.pbs_edges.proofs.Instances.{lives_hold, lives_body, lives_trap, lives_after}
 
 -- the instance of scope t that is live in the tree at k is aborted at k + 1, or isn't
 pub record Outcome (v : List ℕ) (e : Tree) (i k t : ℕ) (aborted : Bool) : Type 0 where
@@ -57,10 +61,18 @@ pub record Into (v : List ℕ) (e : Tree) (i : ℕ) (o : Tree) (j k : ℕ) : Typ
   pub living : (t a : ℕ) (b y : Tree) → Lives v e i k t a b y → Lives v o j k t a b y
   pub opening : (p : ℕ) → fits p e (slice_index v k) ≡ true → fits p o (slice_index v k) ≡ true
 
-pub outcome_into : {v : List ℕ} {e o : Tree} {i j k t : ℕ} {r : Bool} → Into v e i o j k → Outcome v e i k t r → Outcome v o j k t r
-outcome_into w c = record { start = c.start; body = c.body; trap = c.trap; lives = w.living _ _ _ _ c.lives; outcome = c.outcome }
+pub outcome_into : {v : List ℕ} {e o : Tree} {i j k t : ℕ} {r : Bool} → Into v e i o j k → Outcome v e i k t r
+    → Outcome v o j k t r
+outcome_into w c = record {
+  start = c.start;
+  body = c.body;
+  trap = c.trap;
+  lives = w.living _ _ _ _ c.lives;
+  outcome = c.outcome;
+}
 
-pub left_into : {v : List ℕ} {e o : Tree} {i j k : ℕ} {ls : List Round} → Into v e i o j k → LeftWell v e i k ls → LeftWell v o j k ls
+pub left_into : {v : List ℕ} {e o : Tree} {i j k : ℕ} {ls : List Round} → Into v e i o j k → LeftWell v e i k ls
+    → LeftWell v o j k ls
 left_into w c = record { kept = λ t h. outcome_into w (c.kept t h); aborted = λ t h. outcome_into w (c.aborted t h) }
 
 Body-injective : {s t : ℕ} → Body s ≡ Body t → s ≡ t
@@ -69,19 +81,22 @@ Body-injective e = cc
 Trap-injective : {s t : ℕ} → Trap s ≡ Trap t → s ≡ t
 Trap-injective e = cc
 
-left_body : {v : List ℕ} {e : Tree} {i k s : ℕ} {ls : List Round} → Outcome v e i k s false → LeftWell v e i k ls → LeftWell v e i k (Body s ∷ ls)
+left_body : {v : List ℕ} {e : Tree} {i k s : ℕ} {ls : List Round} → Outcome v e i k s false → LeftWell v e i k ls
+    → LeftWell v e i k (Body s ∷ ls)
 left_body {v} {e} {i} {k} {s} {ls} o c = record {
   kept = λ t h. elim h [ inl q ↦ subst (λ r. Outcome v e i k r false) (Body-injective q) o | inr m ↦ c.kept t m ];
   aborted = λ t h. elim h [ inl q ↦ let no : ⊥ = cc in absurd no | inr m ↦ c.aborted t m ];
 }
 
-pub left_trap : {v : List ℕ} {e : Tree} {i k s : ℕ} {ls : List Round} → Outcome v e i k s true → LeftWell v e i k ls → LeftWell v e i k (Trap s ∷ ls)
+pub left_trap : {v : List ℕ} {e : Tree} {i k s : ℕ} {ls : List Round} → Outcome v e i k s true → LeftWell v e i k ls
+    → LeftWell v e i k (Trap s ∷ ls)
 left_trap {v} {e} {i} {k} {s} {ls} o c = record {
   kept = λ t h. elim h [ inl q ↦ let no : ⊥ = cc in absurd no | inr m ↦ c.kept t m ];
   aborted = λ t h. elim h [ inl q ↦ subst (λ r. Outcome v e i k r true) (Trap-injective q) o | inr m ↦ c.aborted t m ];
 }
 
-pub stay_body : {v : List ℕ} {e : Tree} {i k s : ℕ} {rs : List Round} → Outcome v e i k s false → StayWell v e i k rs → StayWell v e i k (Body s ∷ rs)
+pub stay_body : {v : List ℕ} {e : Tree} {i k s : ℕ} {rs : List Round} → Outcome v e i k s false → StayWell v e i k rs
+    → StayWell v e i k (Body s ∷ rs)
 stay_body {v} {e} {i} {k} {s} {rs} o c = record {
   stays = λ t h. elim h [
     | inl b ↦ elim b [ inl q ↦ subst (λ r. Outcome v e i k r false) (Body-injective q) o | inr m ↦ c.stays t (inl m) ]
@@ -89,7 +104,8 @@ stay_body {v} {e} {i} {k} {s} {rs} o c = record {
   ];
 }
 
-pub stay_trap : {v : List ℕ} {e : Tree} {i k s : ℕ} {rs : List Round} → Outcome v e i k s false → StayWell v e i k rs → StayWell v e i k (Trap s ∷ rs)
+pub stay_trap : {v : List ℕ} {e : Tree} {i k s : ℕ} {rs : List Round} → Outcome v e i k s false → StayWell v e i k rs
+    → StayWell v e i k (Trap s ∷ rs)
 stay_trap {v} {e} {i} {k} {s} {rs} o c = record {
   stays = λ t h. elim h [
     | inl b ↦ elim b [ inl q ↦ let no : ⊥ = cc in absurd no | inr m ↦ c.stays t (inl m) ]
@@ -100,7 +116,8 @@ stay_trap {v} {e} {i} {k} {s} {rs} o c = record {
 left_none : {v : List ℕ} {e : Tree} {i k : ℕ} → LeftWell v e i k []
 left_none = record { kept = λ t h. absurd h; aborted = λ t h. absurd h }
 
-pub departure_into : {v : List ℕ} {e o : Tree} {i j k : ℕ} → Into v e i o j k → ((p : ℕ) (rs : List Round) → Last e p rs → Last o p rs)
+pub departure_into : {v : List ℕ} {e o : Tree} {i j k : ℕ} → Into v e i o j k →
+    ((p : ℕ) (rs : List Round) → Last e p rs → Last o p rs)
     → Departure v e i k → Departure v o j k
 departure_into w l d = record {
   from = d.from;
@@ -112,7 +129,8 @@ departure_into w l d = record {
 }
 
 pub arrival_into : {v : List ℕ} {e o : Tree} {i j k p : ℕ} {rs fs : List Round} → Into v e i o j k
-    → ((q n : ℕ) (ls : List Round) → Follow e q p n rs ls fs → Follow o q p n rs ls fs) → Arrival v e i k p rs fs → Arrival v o j k p rs fs
+    → ((q n : ℕ) (ls : List Round) → Follow e q p n rs ls fs → Follow o q p n rs ls fs) → Arrival v e i k p rs fs
+    → Arrival v o j k p rs fs
 arrival_into w l d = record {
   from = d.from;
   node = d.node;
@@ -125,7 +143,8 @@ arrival_into w l d = record {
 }
 
 -- an edge by the node itself
-pub arrival_from_departure : {v : List ℕ} {e o : Tree} {i j k p n : ℕ} {fs : List Round} → Into v e i o j k → (d : Departure v e i k)
+pub arrival_from_departure : {v : List ℕ} {e o : Tree} {i j k p n : ℕ} {fs : List Round} → Into v e i o j k →
+    (d : Departure v e i k)
     → Follow o d.from p n [] d.left fs → Arrival v o j k p [] fs
 arrival_from_departure w d f = record {
   from = d.from;
@@ -138,7 +157,8 @@ arrival_from_departure w d f = record {
   stay_well = record { stays = λ t h. elim h [ inl b ↦ absurd b | inr c ↦ absurd c ] };
 }
 
-pub hold-at : (t : Term) (v : List ℕ) (i j m : ℕ) → all_hold t v i j ≡ true → i ≤ m → m < j → holds t (slice_index v m) ≡ true
+pub hold-at : (t : Term) (v : List ℕ) (i j m : ℕ) → all_hold t v i j ≡ true → i ≤ m → m < j → holds t (slice_index v m)
+    ≡ true
 hold-at t v i j m h low high = all_hold_to t v i j h m low high
 
 pub hold-less : (t : Term) (v : List ℕ) (i k : ℕ) → all_hold t v i (suc k) ≡ true → all_hold t v i k ≡ true
@@ -152,7 +172,8 @@ module _ (v : List ℕ) (k : ℕ) where
     opening = λ p h. or_left (fits p e (slice_index v k)) (fits p f (slice_index v k)) h;
   }
 
-  pub into_right : (at : Spot) (e f : Tree) (i m : ℕ) → i ≤ m → m ≤ k → covers e v i m ≡ true → Into v f m (Seq at e f) i k
+  pub into_right : (at : Spot) (e f : Tree) (i m : ℕ) → i ≤ m → m ≤ k → covers e v i m ≡ true → Into v f m
+      (Seq at e f) i k
   into_right at e f i m low high c = record {
     standing = λ p h. or_right (stands e v i k p) (some_within i k (λ m. covers e v i m && stands f v m k p))
         (split_from i k (λ m. covers e v i m) (λ m. stands f v m k p) m low high c h);
@@ -174,18 +195,21 @@ module _ (v : List ℕ) (k : ℕ) where
     opening = λ p h. or_right (fits p e (slice_index v k)) (fits p f (slice_index v k)) h;
   }
 
-  pub into_star : (at : Spot) (e : Tree) (i m : ℕ) → i ≤ m → m ≤ k → repeats (covers e v) (m - i) i m ≡ true → Into v e m (Star at e) i k
+  pub into_star : (at : Spot) (e : Tree) (i m : ℕ) → i ≤ m → m ≤ k → repeats (covers e v) (m - i) i m ≡ true
+      → Into v e m (Star at e) i k
   into_star at e i m low high c = record {
     standing = λ p h. split_from i k (λ m. repeats (covers e v) (m - i) i m) (λ m. stands e v m k p) m low high c h;
     living = λ t a b y h. lives_star low high c h;
     opening = λ p h. h;
   }
 
-  pub into_hold : (at : Spot) (c : Term) (e : Tree) (i : ℕ) → i ≤ k → all_hold c v i (suc k) ≡ true → Into v e i (Hold at c e) i k
+  pub into_hold : (at : Spot) (c : Term) (e : Tree) (i : ℕ) → i ≤ k → all_hold c v i (suc k) ≡ true → Into v e i
+      (Hold at c e) i k
   into_hold at c e i low h = record {
     standing = λ p s. and_from (stands e v i k p) (all_hold c v i k) s (hold-less c v i k h);
     living = λ t a b y s. lives_hold (hold-less c v i k h) s;
-    opening = λ p o. and_from (fits p e (slice_index v k)) (holds c (slice_index v k)) o (hold-at c v i (suc k) k h low (omega arith));
+    opening = λ p o. and_from (fits p e (slice_index v k)) (holds c (slice_index v k)) o
+        (hold-at c v i (suc k) k h low (omega arith));
   }
 
   module _ (at : Spot) (s : ℕ) (e x h : Tree) (i : ℕ) where
@@ -206,7 +230,8 @@ module _ (v : List ℕ) (k : ℕ) where
     unfolding scope_stands
     into_trap q c = record {
       standing = λ p g. scope-from_body i k (trips e x v i) (scope_stands p) (λ m. stands h v m k p) q
-          (or_right (stands e v i k p) (stands x v i k p && alive e v i k) (and_from (stands x v i k p) (alive e v i k) g c));
+          (or_right (stands e v i k p) (stands x v i k p && alive e v i k)
+          (and_from (stands x v i k p) (alive e v i k) g c));
       living = λ t a b y g. lives_trap q c g;
       opening = λ p g. or_left (fits p e (slice_index v k) || fits p x (slice_index v k)) (fits p h (slice_index v k))
           (or_right (fits p e (slice_index v k)) (fits p x (slice_index v k)) g);
@@ -217,11 +242,13 @@ module _ (v : List ℕ) (k : ℕ) where
     into_after m low f = record {
       standing = λ p g. scope-from_after i k (trips e x v i) (scope_stands p) (λ m. stands h v m k p) m low f g;
       living = λ t a b y g. lives_after low f g;
-      opening = λ p g. or_right (fits p e (slice_index v k) || fits p x (slice_index v k)) (fits p h (slice_index v k)) g;
+      opening = λ p g. or_right (fits p e (slice_index v k) || fits p x (slice_index v k))
+          (fits p h (slice_index v k)) g;
     }
 
 -- an abort candidate one step later: the trap covers up to there, and the body is alive
-pub trip-parts : (e x : Tree) (v : List ℕ) (i k : ℕ) → trips e x v i (suc k) ≡ true → (covers x v i (suc k) ≡ true) × (alive e v i k ≡ true)
+pub trip-parts : (e x : Tree) (v : List ℕ) (i k : ℕ) → trips e x v i (suc k) ≡ true → (covers x v i (suc k) ≡ true) ×
+    (alive e v i k ≡ true)
 trip-parts e x v i k h =
     let p = and_parts (covers x v i (suc k)) (alive e v i (suc k - 1)) h in
     let same : suc k - 1 ≡ k = omega arith in
@@ -247,7 +274,8 @@ module _ (v : List ℕ) where
         left = [];
         last = last_terminal;
         stood = and_from (nat_eq q q) (nat_eq k i) (eq-eqb q q refl) (eq-eqb k i same');
-        opened = and_from (nat_eq q q) (holds t (slice_index v k)) (eq-eqb q q refl) (subst (λ m. holds t (slice_index v m) ≡ true) same p.1);
+        opened = and_from (nat_eq q q) (holds t (slice_index v k)) (eq-eqb q q refl)
+            (subst (λ m. holds t (slice_index v m) ≡ true) same p.1);
         left_well = left_none;
       }
   departure (Action n a) i k l h = absurd (let e : i ≡ suc k = eqb-true i (suc k) h in omega arith)
@@ -257,11 +285,13 @@ module _ (v : List ℕ) where
       elim (at_or_below c.0 (suc k) low) [
         | inl same ↦
             let d = departure e i k l (subst (λ m. covers e v i m ≡ true) same c.3) in
-            let empty : nullable f ≡ true = covers_to_nullable f v (suc k) (subst (λ m. covers f v m (suc k) ≡ true) same c.4) in
+            let empty : nullable f ≡ true = covers_to_nullable f v (suc k)
+            (subst (λ m. covers f v m (suc k) ≡ true) same c.4) in
             departure_into (into_left v k at e f i) (λ p rs t. last_left t empty) d
         | inr less ↦
             let high : c.0 ≤ k = omega arith in
-            departure_into (into_right v k at e f i c.0 c.1 high c.3) (λ p rs t. last_right t) (departure f c.0 k high c.4)
+            departure_into (into_right v k at e f i c.0 c.1 high c.3) (λ p rs t. last_right t)
+            (departure f c.0 k high c.4)
       ]
   departure (Choice at e f) i k l h = elim (or_cases (covers e v i (suc k)) (covers f v i (suc k)) h) [
     | inl a ↦ departure_into (into_either v k at e f i) (λ p rs t. last_either t) (departure e i k l a)
@@ -274,56 +304,59 @@ module _ (v : List ℕ) where
   departure (Hold at t e) i k l h =
       let c = and_parts (covers e v i (suc k)) (all_hold t v i (suc k)) h in
       departure_into (into_hold v k at t e i l c.1) (λ p rs t. last_hold t) (departure e i k l c.0)
-  departure (Scope at s e x h) i k l g = elim (scope-gives i (suc k) (trips e x v i) (covers e v i (suc k)) (λ m. covers h v m (suc k)) g) [
-    | inl a ↦
-        let d = departure e i k l a.1 in
-        let quiet : Quiet (trips e x v i) i k = quiet-less a.0 in
-        let here : Outcome v (Scope at s e x h) i k s false = record {
-          start = i;
-          body = e;
-          trap = x;
-          lives = lives_here l quiet (stands_to_alive e v i k d.from d.stood);
-          outcome = a.0 (suc k) (omega arith) (omega arith);
-        } in
-        let w : Into v e i (Scope at s e x h) i k = into_body v k at s e x h i quiet in
-        record {
-          from = d.from;
-          left = Body s ∷ d.left;
-          last = last_body d.last;
-          stood = w.standing d.from d.stood;
-          opened = w.opening d.from d.opened;
-          left_well = left_body here (left_into w d.left_well);
-        }
-    | inr b ↦
-        let low : b.0 < suc (suc k) = omega arith in
-        elim (at_or_below b.0 (suc k) low) [
-          | inl same ↦
-              let f : IsFirstPass (trips e x v i) i (suc k) = subst (λ m. IsFirstPass (trips e x v i) i m) same b.2 in
-              let p = trip-parts e x v i k f.passes in
-              let d = departure x i k l p.0 in
-              let quiet : Quiet (trips e x v i) i k = quiet_from_first f in
-              let here : Outcome v (Scope at s e x h) i k s true = record {
-                start = i;
-                body = e;
-                trap = x;
-                lives = lives_here l quiet p.1;
-                outcome = f.passes;
-              } in
-              let w : Into v x i (Scope at s e x h) i k = into_trap v k at s e x h i quiet p.1 in
-              let empty : nullable h ≡ true = covers_to_nullable h v (suc k) (subst (λ m. covers h v m (suc k) ≡ true) same b.3) in
-              record {
-                from = d.from;
-                left = Trap s ∷ d.left;
-                last = last_trap d.last empty;
-                stood = w.standing d.from d.stood;
-                opened = w.opening d.from d.opened;
-                left_well = left_trap here (left_into w d.left_well);
-              }
-          | inr less ↦
-              let high : b.0 ≤ k = omega arith in
-              departure_into (into_after v k at s e x h i b.0 high b.2) (λ p rs t. last_after t) (departure h b.0 k high b.3)
-        ]
-  ]
+  departure (Scope at s e x h) i k l g = elim
+      (scope-gives i (suc k) (trips e x v i) (covers e v i (suc k)) (λ m. covers h v m (suc k)) g) [
+        | inl a ↦
+            let d = departure e i k l a.1 in
+            let quiet : Quiet (trips e x v i) i k = quiet-less a.0 in
+            let here : Outcome v (Scope at s e x h) i k s false = record {
+              start = i;
+              body = e;
+              trap = x;
+              lives = lives_here l quiet (stands_to_alive e v i k d.from d.stood);
+              outcome = a.0 (suc k) (omega arith) (omega arith);
+            } in
+            let w : Into v e i (Scope at s e x h) i k = into_body v k at s e x h i quiet in
+            record {
+              from = d.from;
+              left = Body s ∷ d.left;
+              last = last_body d.last;
+              stood = w.standing d.from d.stood;
+              opened = w.opening d.from d.opened;
+              left_well = left_body here (left_into w d.left_well);
+            }
+        | inr b ↦
+            let low : b.0 < suc (suc k) = omega arith in
+            elim (at_or_below b.0 (suc k) low) [
+              | inl same ↦
+                  let f : IsFirstPass (trips e x v i) i (suc k) = subst (λ m. IsFirstPass (trips e x v i) i m) same b.2 in
+                  let p = trip-parts e x v i k f.passes in
+                  let d = departure x i k l p.0 in
+                  let quiet : Quiet (trips e x v i) i k = quiet_from_first f in
+                  let here : Outcome v (Scope at s e x h) i k s true = record {
+                    start = i;
+                    body = e;
+                    trap = x;
+                    lives = lives_here l quiet p.1;
+                    outcome = f.passes;
+                  } in
+                  let w : Into v x i (Scope at s e x h) i k = into_trap v k at s e x h i quiet p.1 in
+                  let empty : nullable h ≡ true = covers_to_nullable h v (suc k)
+                  (subst (λ m. covers h v m (suc k) ≡ true) same b.3) in
+                  record {
+                    from = d.from;
+                    left = Trap s ∷ d.left;
+                    last = last_trap d.last empty;
+                    stood = w.standing d.from d.stood;
+                    opened = w.opening d.from d.opened;
+                    left_well = left_trap here (left_into w d.left_well);
+                  }
+              | inr less ↦
+                  let high : b.0 ≤ k = omega arith in
+                  departure_into (into_after v k at s e x h i b.0 high b.2) (λ p rs t. last_after t)
+                  (departure h b.0 k high b.3)
+            ]
+      ]
 
   -- what is alive was alive one vector before, if it had begun
   pub alive-less : (e : Tree) (i k : ℕ) → i ≤ k → alive e v i (suc k) ≡ true → alive e v i k ≡ true

@@ -1,5 +1,6 @@
 -- How the table of effective terms grows.
-use Rattle.std.proofs.Common.{◌≡◌, ℕ, zero, suc, ◌+◌, ◌<◌, Bool, true, false, ◌&&◌, ◌⊎◌, inl, inr, List, [], ◌∷◌, ◌++◌, length}
+use Rattle.std.proofs.Common.{◌≡◌, ℕ, zero, suc, ◌+◌, ◌<◌, Bool, true, false, ◌&&◌, ◌⊎◌, inl, inr, List, [], ◌∷◌, ◌++◌}
+use Rattle.std.proofs.Common.{length}
 use Rattle.std.proofs.Common.{Some, refl, sym, ◌∙◌, ap, subst, arith, append_assoc, length-append, IsTrue}
 use Rattle.std.specs.Prelude.{slice_get, Contains}
 use Rattle.std.proofs.lemmas.Bool.{and_from}
@@ -59,7 +60,8 @@ meant (x ∷ ws) (t ∷ ts) (suc n) w h g = meant ws ts n w h.1 g
 
 -- Words in a list that grows
 
-pub get-append : {A : Type 0} (xs ys : List A) (n : ℕ) (x : A) → slice_get xs n ≡ Some x → slice_get (xs ++ ys) n ≡ Some x
+pub get-append : {A : Type 0} (xs ys : List A) (n : ℕ) (x : A) → slice_get xs n ≡ Some x → slice_get (xs ++ ys) n
+    ≡ Some x
 get-append [] ys n x h = absurd (cc)
 get-append (y ∷ xs) ys zero x h = h
 get-append (y ∷ xs) ys (suc n) x h = get-append xs ys n x h

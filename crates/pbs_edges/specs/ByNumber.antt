@@ -24,7 +24,8 @@ AbortsByNumber main from node s = PlaceInTrap main from s × (NodeInTrap main no
 
 -- the place that is reached lies in the body or the trap of s, and the node lies in neither
 abbrev pub EntersByNumber : Tree → (to node s : ℕ) → Type 0
-EntersByNumber main to node s = (PlaceInBody main to s ⊎ PlaceInTrap main to s) × (NodeInBody main node s → ⊥) × (NodeInTrap main node s → ⊥)
+EntersByNumber main to node s = (PlaceInBody main to s ⊎ PlaceInTrap main to s) × (NodeInBody main node s → ⊥) ×
+    (NodeInTrap main node s → ⊥)
 
 abbrev pub LeavesByNumber : Tree → (from s : ℕ) → Type 0
 LeavesByNumber main from s = PlaceInBody main from s ⊎ PlaceInTrap main from s
@@ -32,7 +33,8 @@ LeavesByNumber main from s = PlaceInBody main from s ⊎ PlaceInTrap main from s
 -- the first edge aborts no scope that the second one leaves without aborting it
 abbrev pub AbortsAgreeByNumber : Tree → Edge → Edge → Type 0
 AbortsAgreeByNumber main d e =
-    (s : ℕ) → AbortsByNumber main d.from d.node s → LeavesByNumber main e.from s → (AbortsByNumber main e.from e.node s → ⊥) → ⊥
+    (s : ℕ) → AbortsByNumber main d.from d.node s → LeavesByNumber main e.from s →
+    (AbortsByNumber main e.from e.node s → ⊥) → ⊥
 
 -- what lets two follow edges be taken in one step
 pub record Fits (main : Tree) (d e : Edge) : Type 0 where
@@ -42,4 +44,5 @@ pub record Fits (main : Tree) (d e : Edge) : Type 0 where
 
 -- a step by these edges refuses s
 abbrev pub RefusesByNumber : Tree → Edge → Edge → ℕ → Type 0
-RefusesByNumber main d e s = (NodeInBody main d.node s × EntersByNumber main e.to e.node s) ⊎ (EntersByNumber main d.to d.node s × NodeInBody main e.node s)
+RefusesByNumber main d e s = (NodeInBody main d.node s × EntersByNumber main e.to e.node s) ⊎
+    (EntersByNumber main d.to d.node s × NodeInBody main e.node s)

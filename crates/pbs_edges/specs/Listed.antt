@@ -40,7 +40,8 @@ abbrev pub follow_edges : Tree → List Edge
 follow_edges (Empty at) = []
 follow_edges (Terminal at p t) = []
 follow_edges (Action at a) = []
-follow_edges (Seq at e f) = follow_edges e ++ (follow_edges f ++ edges_between at.number (last_places e) (first_places f))
+follow_edges (Seq at e f) = follow_edges e ++
+    (follow_edges f ++ edges_between at.number (last_places e) (first_places f))
 follow_edges (Choice at e f) = follow_edges e ++ follow_edges f
 follow_edges (Star at e) = follow_edges e ++ edges_between at.number (last_places e) (first_places e)
 follow_edges (Hold at t e) = follow_edges e

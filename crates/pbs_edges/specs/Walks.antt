@@ -22,12 +22,14 @@ pub record IsJointStep (main : Tree) (d e : ScopedEdge) : Type 0 where
 -- two lists of edges, the last edge first
 pub data DoubleWalk (main : Tree) : List ScopedEdge → List ScopedEdge → Type 0 where
   begin : {d e : ScopedEdge} → IsStart main d → IsStart main e → DoubleWalk main (d ∷ []) (e ∷ [])
-  step : {d e b c : ScopedEdge} {bs cs : List ScopedEdge} → DoubleWalk main (b ∷ bs) (c ∷ cs) → d.from ≡ b.to → e.from ≡ c.to → IsJointStep main d e
+  step : {d e b c : ScopedEdge} {bs cs : List ScopedEdge} → DoubleWalk main (b ∷ bs) (c ∷ cs) → d.from ≡ b.to → e.from
+      ≡ c.to → IsJointStep main d e
       → DoubleWalk main (d ∷ (b ∷ bs)) (e ∷ (c ∷ cs))
 
 -- some double walk ends in p and q, in this order
 abbrev pub Reaches : Tree → ℕ → ℕ → Type 0
-Reaches main p q = (d e : ScopedEdge) × (ds es : List ScopedEdge) × DoubleWalk main (d ∷ ds) (e ∷ es) × (d.to ≡ p) × (e.to ≡ q)
+Reaches main p q = (d e : ScopedEdge) × (ds es : List ScopedEdge) × DoubleWalk main (d ∷ ds) (e ∷ es) × (d.to ≡ p) ×
+    (e.to ≡ q)
 
 abbrev pub Together : Tree → ℕ → ℕ → Type 0
 Together main p q = Reaches main p q ⊎ Reaches main q p

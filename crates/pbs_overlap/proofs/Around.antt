@@ -2,7 +2,8 @@
 use Rattle.std.proofs.Common.{◌≡◌, ℕ, zero, suc, ◌+◌, ◌<◌, ◌≤◌, true, cond, ◌⊎◌, inl, inr, List, [], ◌∷◌, ◌++◌}
 use Rattle.std.proofs.Common.{length, Some, refl, sym, ◌∙◌, ap, subst, arith}
 use Rattle.std.specs.Prelude.{nat_eq, nat_lt, slice_get}
-use Rattle.std.proofs.lemmas.Bool.{and_parts, eq-eqb, ne_eqb, lt-ltb, le-ltb, cases_lt, cases_order, cond-true, cond-false}
+use Rattle.std.proofs.lemmas.Bool.{and_parts, eq-eqb, ne_eqb, lt-ltb, le-ltb, cases_lt, cases_order, cond-true}
+use Rattle.std.proofs.lemmas.Bool.{cond-false}
 use Rattle.std.proofs.lemmas.Option.{same_Some}
 use Rattle.pbs_ast.specs.Trees.{Tree, Empty, Terminal, Action, Seq, Choice, Star, Hold, Scope}
 use Rattle.pbs_ast.specs.Sound.{visit_count, place_count, scope_count}
@@ -367,7 +368,8 @@ round_from_inside (Scope at t e x h) n b s m zero q r g d i l =
     let scope : t ≡ scope_of q = let own = c.scope in omega arith in
     scope_round q (subst (λ r. LiesIn q r m) (sym (same_Some here r d)) l) scope number_e number_x number_h
   where
-    scope_round : (q : Round) → LiesIn q (record { span = at.span; body = number_of e; trap = number_of x; after = number_of h }) m
+    scope_round : (q : Round) → LiesIn q
+        (record { span = at.span; body = number_of e; trap = number_of x; after = number_of h }) m
         → t ≡ scope_of q → number_of e ≡ n + 1 → number_of x ≡ n + 1 + visit_count e
         → number_of h ≡ n + 1 + visit_count e + visit_count x → Among (node_rounds (Scope at t e x h) n m) q
     scope_round (Body u) l same e1 e2 e3 =
@@ -391,7 +393,8 @@ round_from_inside (Scope at t e x h) n b s m (suc k) q r g d i l =
             past m n (n + 1 + visit_count e) _ _ q (let a = z.0 in omega arith) (let a = z.0 in omega arith)
             (subst (λ rs. Among rs q) (sym (cond-true (nat_lt m (n + 1 + visit_count e + visit_count x)) _ _
             (lt-ltb m (n + 1 + visit_count e + visit_count x) z.1)))
-            (inr (round_from_inside x (n + 1 + visit_count e) (b + place_count e) (1 + s + scope_count e) m w.0 q r c.trap
+            (inr (round_from_inside x (n + 1 + visit_count e) (b + place_count e)
+            (1 + s + scope_count e) m w.0 q r c.trap
             y.1 (let a = w.1 in let d = length-ranges e in omega arith) l)))
         | inr y ↦
             let z = in_span (n + 1 + visit_count e + visit_count x)

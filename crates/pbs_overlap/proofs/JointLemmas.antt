@@ -1,5 +1,6 @@
 -- The table of joint terms tells which places' terms can be true in one vector.
-use Rattle.std.proofs.Common.{◌≡◌, ℕ, zero, suc, ◌+◌, ◌*◌, ◌/◌, ◌%◌, ◌<◌, ◌≤◌, Bool, true, false, ◌&&◌, inl, inr, ◌↔◌, List, []}
+use Rattle.std.proofs.Common.{◌≡◌, ℕ, zero, suc, ◌+◌, ◌*◌, ◌/◌, ◌%◌, ◌<◌, ◌≤◌, Bool, true, false, ◌&&◌, inl, inr, ◌↔◌}
+use Rattle.std.proofs.Common.{List, []}
 use Rattle.std.proofs.Common.{◌∷◌, length, get_or, Some, refl, sym, ◌∙◌, ap, subst, arith, IsTrue}
 use Rattle.std.specs.Prelude.{slice_get}
 use Rattle.std.proofs.lemmas.Bool.{cases_lt, cases_Bool, and_from, both_ways}
@@ -74,11 +75,16 @@ module _ (main : Tree) (counted : IsCounted main) (t : TermTable) (store : List 
 
   -- the node of a place's term is true in the vectors that the place fits
   node_fits : (p : ℕ) → p < place_count main
-      → (u : declared.Term) × TellsTerm main p u × ((v : ℕ) → node_holds store (node_at nodes (number p)) v ≡ holds (term_of u) v)
+      → (u : declared.Term) × TellsTerm main p u ×
+      ((v : ℕ) → node_holds store (node_at nodes (number p)) v ≡ holds (term_of u) v)
   unfolding number
   node_fits p l =
-      let u = term_of_place main t counted known few p l in
-      (u.0, u.2, (stand.stand (get_or t.of_place p 0) u.0 (within_list t.terms (get_or t.of_place p 0) u.0 u.1) u.1).meaning)
+      let u = term_of_place main t counted known few p l in (
+        u.0,
+        u.2,
+        (stand.stand (get_or t.of_place p 0) u.0
+            (within_list t.terms (get_or t.of_place p 0) u.0 u.1) u.1).meaning,
+      )
 
   module _ (p q : ℕ) (in_p : p < place_count main) (in_q : q < place_count main) where
     cell : ℕ
@@ -98,7 +104,8 @@ module _ (main : Tree) (counted : IsCounted main) (t : TermTable) (store : List 
         subst (λ k. (get_or table (number p * length nodes + number q) false ≡ false)
         ↔ AreDisjoint store (node_at nodes k) (node_at nodes (number q))) row
         (subst (λ k. (get_or table (number p * length nodes + number q) false ≡ false)
-        ↔ AreDisjoint store (node_at nodes ((number p * length nodes + number q) / length nodes)) (node_at nodes k)) column
+        ↔ AreDisjoint store (node_at nodes ((number p * length nodes + number q) / length nodes))
+        (node_at nodes k)) column
         (told (number p * length nodes + number q) inside))
 
     open_from_table : get_or table (number p * length nodes + number q) false ≡ true → CanOpenTogether main p q
@@ -122,7 +129,8 @@ module _ (main : Tree) (counted : IsCounted main) (t : TermTable) (store : List 
           let a = node_fits p in_p in
           let b = node_fits q in_q in
           let apart = told_here.0 is_false in
-          absurd (both_ways (node_holds store (node_at nodes (number p)) h.0 && node_holds store (node_at nodes (number q)) h.0)
+          absurd (both_ways (node_holds store (node_at nodes (number p)) h.0 && node_holds store
+          (node_at nodes (number q)) h.0)
           (apart.never h.0)
           (and_from (node_holds store (node_at nodes (number p)) h.0) (node_holds store (node_at nodes (number q)) h.0)
           (a.2 h.0 ∙ ((a.1).truth h.0 ∙ h.1)) (b.2 h.0 ∙ ((b.1).truth h.0 ∙ h.2))))
@@ -141,7 +149,8 @@ module _ (main : Tree) (counted : IsCounted main) (t : TermTable) (store : List 
         below = λ p l. subst (λ xs. get_or xs p 0 < j.count) (sym places) (let b = number_below p l in omega arith);
         table = ap (λ xs. length xs) items ∙ size ∙ sym (ap (λ k. k * k) count);
         exact = λ p q a b.
-            let same : joint_at j p q ≡ get_or table (get_or t.of_place p 0 * length nodes + get_or t.of_place q 0) false =
+            let same : joint_at j p q ≡ get_or table
+            (get_or t.of_place p 0 * length nodes + get_or t.of_place q 0) false =
             rw (places, count, items) refl in
             ((λ h. open_from_table p q a b (sym same ∙ h)), (λ h. same ∙ table_from_open p q a b h));
       }

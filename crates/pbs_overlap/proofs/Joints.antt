@@ -1,5 +1,6 @@
 -- Tables of terms that can be true in one vector.
-use Rattle.std.proofs.Common.{◌≡◌, ℕ, ◌+◌, ◌/◌, ◌%◌, Bool, true, false, not, ◌↔◌, inl, inr, List, [], ◌∷◌, ◌++◌, length, get_or}
+use Rattle.std.proofs.Common.{◌≡◌, ℕ, ◌+◌, ◌/◌, ◌%◌, Bool, true, false, not, ◌↔◌, inl, inr, List, [], ◌∷◌, ◌++◌, length}
+use Rattle.std.proofs.Common.{get_or}
 use Rattle.std.proofs.Common.{refl, sym, ◌∙◌, ap, subst, arith, length-append, IsTrue}
 use Rattle.std.proofs.lemmas.Bool.{cases_eq, false≢true}
 use Rattle.std.proofs.lemmas.List.{get_or_push, get_or_append_left}
@@ -20,8 +21,10 @@ told_at store nodes n table new apart size told grown here cell l = elim (cases_
   | inl e ↦
       let last : get_or new cell false ≡ not apart =
       ap (λ xs. get_or xs cell false) grown ∙ get_or_push table (not apart) false cell (omega arith) in
-      let cells : (IsTrue apart ↔ AreDisjoint store (node_at nodes (cell / length nodes)) (node_at nodes (cell % length nodes))) =
-      subst (λ k. IsTrue apart ↔ AreDisjoint store (node_at nodes (k / length nodes)) (node_at nodes (k % length nodes))) (sym e) here in
+      let cells : (IsTrue apart ↔ AreDisjoint store (node_at nodes (cell / length nodes))
+      (node_at nodes (cell % length nodes))) =
+      subst (λ k. IsTrue apart ↔ AreDisjoint store (node_at nodes (k / length nodes))
+      (node_at nodes (k % length nodes))) (sym e) here in
       ((λ h. cells.0 (not_false_to apart (sym last ∙ h))), (λ d. last ∙ ap not (cells.1 d)))
   | inr other ↦
       let before : get_or new cell false ≡ get_or table cell false =

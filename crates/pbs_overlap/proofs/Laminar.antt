@@ -4,7 +4,8 @@ use Rattle.std.proofs.Common.{Some, refl, ◌∙◌, ap, subst, arith}
 use Rattle.std.specs.Prelude.{nat_eq, slice_get}
 use Rattle.std.proofs.lemmas.Bool.{false≢true, and_parts}
 use Rattle.std.proofs.lemmas.Option.{same_Some}
-use Rattle.pbs_ast.specs.Trees.{Spot, Tree, Empty, Terminal, Action, Seq, Choice, Star, Hold, Scope, is_plain, has_terminal, nullable}
+use Rattle.pbs_ast.specs.Trees.{Spot, Tree, Empty, Terminal, Action, Seq, Choice, Star, Hold, Scope, is_plain}
+use Rattle.pbs_ast.specs.Trees.{has_terminal, nullable}
 use Rattle.pbs_ast.specs.Sound.{visit_count, place_count, scope_count, scopes_right}
 use Rattle.pbs_edges.proofs.Numbering.{numbered}
 use Rattle.pbs_edges.proofs.Rounds.{pair_parts, scope_parts}

@@ -167,13 +167,16 @@ at_leaf (Scope at t e x h) n b s i g l =
           }
       | inr above ↦
           let j : ℕ = i - place_count e in
-          let rest : get_or (leaves e ++ (leaves x ++ leaves h)) i 0 ≡ get_or (leaves x ++ leaves h) (i - place_count e) 0 =
+          let rest : get_or (leaves e ++ (leaves x ++ leaves h)) i 0 ≡ get_or (leaves x ++ leaves h)
+          (i - place_count e) 0 =
           get_or-append_right (leaves e) (leaves x ++ leaves h) (place_count e) i 0 size_e above in
           elim (cases_lt (i - place_count e) (place_count x)) [
             | inl below ↦
-                let same : get_or (leaves x ++ leaves h) (i - place_count e) 0 ≡ get_or (leaves x) (i - place_count e) 0 =
+                let same : get_or (leaves x ++ leaves h) (i - place_count e) 0 ≡ get_or (leaves x)
+                (i - place_count e) 0 =
                 get_or_append_left (leaves x) (leaves h) 0 (i - place_count e) (omega arith) in
-                let r = at_leaf x (n + 1 + visit_count e) (b + place_count e) (1 + s + scope_count e) (i - place_count e)
+                let r = at_leaf x (n + 1 + visit_count e) (b + place_count e) (1 + s + scope_count e)
+                (i - place_count e)
                 c.trap below in
                 let low : n + 1 + visit_count e ≤ get_or (leaves x) (i - place_count e) 0 = r.low in
                 let high : get_or (leaves x) (i - place_count e) 0 < n + 1 + visit_count e + visit_count x = r.high in
@@ -181,7 +184,8 @@ at_leaf (Scope at t e x h) n b s i g l =
                 record {
                   low = omega arith;
                   high = omega arith;
-                  rounds = rw (rest, same) (later (get_or (leaves x) (i - place_count e) 0) n (n + 1 + visit_count e) [] _ _ _
+                  rounds = rw (rest, same)
+                      (later (get_or (leaves x) (i - place_count e) 0) n (n + 1 + visit_count e) [] _ _ _
                       (omega arith) low
                       (in_rest (b + i) (b + place_count e) _ _ _ (omega arith)
                       (cond-true (nat_lt (b + i) (b + place_count e + place_count x)) _ _
@@ -189,7 +193,8 @@ at_leaf (Scope at t e x h) n b s i g l =
                       ∙ ap (λ rs. Trap t ∷ rs) (ap (λ p. place_rounds x (b + place_count e) p) (sym place) ∙ r.rounds)
                       ∙ sym (cond-true (nat_lt (get_or (leaves x) (i - place_count e) 0)
                       (n + 1 + visit_count e + visit_count x)) _ _
-                      (lt-ltb (get_or (leaves x) (i - place_count e) 0) (n + 1 + visit_count e + visit_count x) high)))));
+                      (lt-ltb (get_or (leaves x) (i - place_count e) 0)
+                      (n + 1 + visit_count e + visit_count x) high)))));
                 }
             | inr beyond ↦
                 let k : ℕ = i - place_count e - place_count x in
@@ -198,11 +203,13 @@ at_leaf (Scope at t e x h) n b s i g l =
                 get_or-append_right (leaves x) (leaves h) (place_count x) (i - place_count e) 0 size_x beyond in
                 let r = at_leaf h (n + 1 + visit_count e + visit_count x) (b + place_count e + place_count x)
                 (1 + s + scope_count e + scope_count x) (i - place_count e - place_count x) c.after (omega arith) in
-                let low : n + 1 + visit_count e + visit_count x ≤ get_or (leaves h) (i - place_count e - place_count x) 0 =
+                let low : n + 1 + visit_count e + visit_count x ≤ get_or (leaves h)
+                (i - place_count e - place_count x) 0 =
                 r.low in
                 let high : get_or (leaves h) (i - place_count e - place_count x) 0
                 < n + 1 + visit_count e + visit_count x + visit_count h = r.high in
-                let place : b + place_count e + place_count x + (i - place_count e - place_count x) ≡ b + i = omega arith in
+                let place : b + place_count e + place_count x + (i - place_count e - place_count x)
+                ≡ b + i = omega arith in
                 record {
                   low = omega arith;
                   high = omega arith;

@@ -28,13 +28,15 @@ use Rattle.pbs_overlap.proofs.Leaves.{length-leaves, length-ranges}
 
 -- the default doesn't matter within a list
 pub any_default : {A : Type 0} (xs : List A) (k : ℕ) (a b : A) → k < length xs → get_or xs k a ≡ get_or xs k b
-any_default xs k a b l = same_Some (get_or xs k a) (get_or xs k b) (sym (slice_get-get_or xs k a l) ∙ slice_get-get_or xs k b l)
+any_default xs k a b l = same_Some (get_or xs k a) (get_or xs k b)
+    (sym (slice_get-get_or xs k a l) ∙ slice_get-get_or xs k b l)
 
 from_next : (d e : Edge) → IsBefore d e → d.from ≤ e.from
 from_next d e h = elim h [ inl l ↦ omega arith | inr p ↦ let q = p.0 in omega arith ]
 
 pub froms_rise : (edges : List Edge) → AllAdjacentBelow IsBefore edges (length edges) → FromsRise edges
-froms_rise edges up i zero l m = let e : i ≡ zero = omega arith in subst (λ k. (edge_at edges k).from ≤ (edge_at edges zero).from) (sym e) (omega arith)
+froms_rise edges up i zero l m = let e : i ≡ zero = omega arith in subst
+    (λ k. (edge_at edges k).from ≤ (edge_at edges zero).from) (sym e) (omega arith)
 froms_rise edges up i (suc j) l m = elim (cases_eq i (suc j)) [
   | inl e ↦ subst (λ k. (edge_at edges k).from ≤ (edge_at edges (suc j)).from) (sym e) (omega arith)
   | inr ne ↦
@@ -103,10 +105,12 @@ few_ranges main c = let a = scopes_few main in let b = length-ranges main in let
 pub few_leaves : (main : Tree) → IsCounted main → length (leaves main) ≤ 4096
 few_leaves main c = let b = length-leaves main in let d = c.places in omega arith
 
-pub edge_places : (main : Tree) (edges : Edges) → IsCounted main → AreEdges main edges → (k : ℕ) → k < length edges.follows
+pub edge_places : (main : Tree) (edges : Edges) → IsCounted main → AreEdges main edges → (k : ℕ)
+    → k < length edges.follows
     → ((edge_at edges.follows k).from < length (leaves main)) × ((edge_at edges.follows k).to < length (leaves main))
 edge_places main edges c known k l =
-    let t = in_tree main (is_numbered main c) (edge_at edges.follows k) (edge_there main (is_numbered main c) edges known k l) in
+    let t = in_tree main (is_numbered main c) (edge_at edges.follows k)
+    (edge_there main (is_numbered main c) edges known k l) in
     let n = length-leaves main in
     (let a = t.from in omega arith, let a = t.to in omega arith)
 

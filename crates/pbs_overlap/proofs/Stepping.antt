@@ -2,20 +2,24 @@
 use Rattle.std.proofs.Common.{◌≡◌, ℕ, ◌+◌, ◌<◌, ◌≤◌, Bool, true, false, not, inl, inr, Option, Some, None}
 use Rattle.std.proofs.Common.{get_or, sym, ◌∙◌, subst, arith}
 use Rattle.std.specs.Prelude.{nat_le, nat_lt, slice_get}
-use Rattle.std.proofs.lemmas.Bool.{false≢true, and_parts, and_from, not-true, not_from_false, cases_Bool, cases_lt, cases_order, both_ways, leb-true, ltb-true, le-leb, lt-ltb, eq-eqb, eqb-true, false_from_ne_true, cond-true, cond-false}
+use Rattle.std.proofs.lemmas.Bool.{false≢true, and_parts, and_from, not-true, not_from_false, cases_Bool, cases_lt}
+use Rattle.std.proofs.lemmas.Bool.{cases_order, both_ways, leb-true, ltb-true, le-leb, lt-ltb, eq-eqb, eqb-true}
+use Rattle.std.proofs.lemmas.Bool.{false_from_ne_true, cond-true, cond-false}
 use Rattle.std.proofs.lemmas.Option.{same_Some}
 use Rattle.pbs_ast.specs.Trees.{Tree}
 use Rattle.pbs_ast.specs.Sound.{visit_count, place_count, scopes_right}
 use Rattle.pbs_edges.specs.declared.edge.Edge.{Edge}
 use Rattle.pbs_edges.specs.Edges.{Round, Body, Trap, Among}
 use Rattle.pbs_edges.specs.Rounds.{place_rounds, node_rounds}
-use Rattle.pbs_edges.specs.ByNumber.{PlaceInBody, PlaceInTrap, NodeInBody, NodeInTrap, AbortsByNumber, EntersByNumber, LeavesByNumber, AbortsAgreeByNumber}
+use Rattle.pbs_edges.specs.ByNumber.{PlaceInBody, PlaceInTrap, NodeInBody, NodeInTrap, AbortsByNumber, EntersByNumber}
+use Rattle.pbs_edges.specs.ByNumber.{LeavesByNumber, AbortsAgreeByNumber}
 use Rattle.pbs_edges.proofs.Numbering.{IsNumbered}
 use Rattle.pbs_overlap.specs.declared.ranges.ScopeRange.{ScopeRange}
 use Rattle.pbs_overlap.specs.declared.steps.Region.{Region}
 use Rattle.pbs_overlap.specs.declared.steps.Step.{Step}
 use Rattle.pbs_overlap.specs.Ranges.{leaves, ranges}
-use Rattle.pbs_overlap.specs.Steps.{is_within, aborts_range, enters_range, IsAborted, IsEntered, is_region, aborts_scope, region_clash, clash, region_refused, refused_scope}
+use Rattle.pbs_overlap.specs.Steps.{is_within, aborts_range, enters_range, IsAborted, IsEntered, is_region}
+use Rattle.pbs_overlap.specs.Steps.{aborts_scope, region_clash, clash, region_refused, refused_scope}
 use Rattle.pbs_overlap.specs.Stepping.{IsStep}
 use Rattle.pbs_overlap.proofs.Leaves.{at_leaf}
 use Rattle.pbs_overlap.proofs.Around.{Within, Inside, inside_from_round, round_from_inside, range_within}
@@ -245,14 +249,17 @@ module _ (main : Tree) (number : IsNumbered main) (right : scopes_right main ≡
         let w = leaves_to e.from s in_e.from leaving in
         let r : w.0 ≡ a.0 = same_range s w.0 a.0 w.1 (subst (λ k. Has k a.0) same (a.1).found) in
         let low : x.first ≤ y.leaf =
-        subst (λ k. x.first ≤ k) (sym leaf_e) (subst (λ k. k ≤ leaf e.from) (sym a.2) (subst (λ q. q.body ≤ leaf e.from) r w.2)) in
+        subst (λ k. x.first ≤ k) (sym leaf_e)
+        (subst (λ k. k ≤ leaf e.from) (sym a.2) (subst (λ q. q.body ≤ leaf e.from) r w.2)) in
         let high : y.leaf < x.end =
-        subst (λ k. k < x.end) (sym leaf_e) (subst (λ k. leaf e.from < k) (sym a.3) (subst (λ q. leaf e.from < q.after) r w.3)) in
+        subst (λ k. k < x.end) (sym leaf_e)
+        (subst (λ k. leaf e.from < k) (sym a.3) (subst (λ q. leaf e.from < q.after) r w.3)) in
         let other : aborts_scope y x.scope ≡ false = false_from_ne_true (aborts_scope y x.scope) (λ t.
         keeps (subst (λ k. AbortsByNumber main e.from e.node k) same
         (region_of e.from e.node x.scope y.aborts in_e.from in_e.node aborts_e t))) in
         both_ways (region_clash (Some x) y) h
-        (and_from (is_within y.leaf x.first x.end) (not (aborts_scope y x.scope)) (within_from y.leaf x.first x.end low high)
+        (and_from (is_within y.leaf x.first x.end) (not (aborts_scope y x.scope))
+        (within_from y.leaf x.first x.end low high)
         (not_from_false (aborts_scope y x.scope) other))
 
     disagree_where : (o : Option Region) → IsAborted (ranges main) (leaf d.from) d.node o → region_clash o y ≡ true
@@ -288,7 +295,8 @@ module _ (main : Tree) (number : IsNumbered main) (right : scopes_right main ≡
     refused_where None s a h = absurd (cc)
     refused_where (Some x) s a h = elim (cases_Bool (is_within d.node x.first x.end)) [
       | inl t ↦
-          let same : x.scope ≡ s = same_Some x.scope s (sym (cond-true (is_within d.node x.first x.end) (Some x.scope) None t) ∙ h) in
+          let same : x.scope ≡ s = same_Some x.scope s
+          (sym (cond-true (is_within d.node x.first x.end) (Some x.scope) None t) ∙ h) in
           let z = within_to d.node x.first x.end t in
           let body : NodeInBody main d.node x.scope = body_from d.node x.scope a.0 (a.1).found
           (subst (λ k. k ≤ d.node) a.2 z.0) (subst (λ k. d.node < k) a.3 z.1) in
@@ -296,7 +304,8 @@ module _ (main : Tree) (number : IsNumbered main) (right : scopes_right main ≡
           enters_from e.to e.node x.scope a.0 in_e.to in_e.node (a.1).found (a.1).passes in
           (subst (λ k. NodeInBody main d.node k) same body, subst (λ k. EntersByNumber main e.to e.node k) same enters)
       | inr f ↦
-          let none : ◌≡◌ {A = Option ℕ} None (Some s) = sym (cond-false (is_within d.node x.first x.end) (Some x.scope) None f) ∙ h in
+          let none : ◌≡◌ {A = Option ℕ} None (Some s) = sym
+          (cond-false (is_within d.node x.first x.end) (Some x.scope) None f) ∙ h in
           absurd (cc)
     ]
 
@@ -312,15 +321,21 @@ module _ (main : Tree) (number : IsNumbered main) (right : scopes_right main ≡
         let high : d.node < (w.0).trap = subst (λ q. d.node < q.trap) same_b b.3 in
         let inside : (a.0).body ≤ d.node → d.node < (a.0).trap → region_refused d.node (Some x) ≡ Some x.scope =
         λ l h. cond-true (is_within d.node x.first x.end) (Some x.scope) None
-        (within_from d.node x.first x.end (subst (λ k. k ≤ d.node) (sym a.2) l) (subst (λ k. d.node < k) (sym a.3) h)) in
+        (within_from d.node x.first x.end (subst (λ k. k ≤ d.node) (sym a.2) l)
+        (subst (λ k. d.node < k) (sym a.3) h)) in
         elim (cases_order x.scope t) [
           | inl e ↦
-              let r : a.0 ≡ w.0 = same_range t a.0 w.0 (subst (λ k. Has k a.0) e (a.1).found) w.1 in
-              (x.scope, inside (subst (λ q. q.body ≤ d.node) (sym r) low) (subst (λ q. d.node < q.trap) (sym r) high), omega arith)
+              let r : a.0 ≡ w.0 = same_range t a.0 w.0 (subst (λ k. Has k a.0) e (a.1).found) w.1 in (
+                x.scope,
+                inside (subst (λ q. q.body ≤ d.node) (sym r) low) (subst (λ q. d.node < q.trap) (sym r) high),
+                omega arith,
+              )
           | inr o ↦ elim o [
             | inl less ↦
-                let p = and_parts (is_within (leaf e.to) (a.0).body (a.0).after) (not (is_within e.node (a.0).body (a.0).after)) (a.1).passes in
-                let q = and_parts (is_within (leaf e.to) (w.0).body (w.0).after) (not (is_within e.node (w.0).body (w.0).after)) w.2 in
+                let p = and_parts (is_within (leaf e.to) (a.0).body (a.0).after)
+                (not (is_within e.node (a.0).body (a.0).after)) (a.1).passes in
+                let q = and_parts (is_within (leaf e.to) (w.0).body (w.0).after)
+                (not (is_within e.node (w.0).body (w.0).after)) w.2 in
                 let u = within_to (leaf e.to) (a.0).body (a.0).after p.0 in
                 let v = within_to (leaf e.to) (w.0).body (w.0).after q.0 in
                 let o = (ordered t w.0 w.1).trap in
@@ -332,7 +347,8 @@ module _ (main : Tree) (number : IsNumbered main) (right : scopes_right main ≡
           ]
         ]
 
-  pub refused_from_steps : (d e : Edge) (x y : Step) (s : ℕ) → IsEdgeOf d → IsEdgeOf e → IsStep main d x → IsStep main e y
+  pub refused_from_steps : (d e : Edge) (x y : Step) (s : ℕ) → IsEdgeOf d → IsEdgeOf e → IsStep main d x
+      → IsStep main e y
       → refused_scope x y ≡ Some s → NodeInBody main d.node s × EntersByNumber main e.to e.node s
   unfolding leaf
   refused_from_steps d e x y s p q a b h =

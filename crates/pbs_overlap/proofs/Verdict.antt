@@ -1,8 +1,10 @@
 -- What the search says of the tree.
-use Rattle.std.proofs.Common.{◌≡◌, ℕ, zero, suc, ◌+◌, ◌*◌, ◌/◌, ◌%◌, ◌<◌, ◌≤◌, Bool, true, false, not, ◌&&◌, inl, inr, ◌↔◌}
+use Rattle.std.proofs.Common.{◌≡◌, ℕ, zero, suc, ◌+◌, ◌*◌, ◌/◌, ◌%◌, ◌<◌, ◌≤◌, Bool, true, false, not, ◌&&◌, inl, inr}
+use Rattle.std.proofs.Common.{◌↔◌}
 use Rattle.std.proofs.Common.{length, get_or, Option, Some, None, refl, sym, ◌∙◌, ap, subst, arith}
 use Rattle.std.specs.Prelude.{slice_get, slice_index}
-use Rattle.std.proofs.lemmas.Bool.{and_parts, and_from, cases_lt, not-true, not_from_false, false_from_ne_true, cases_Bool, cond-true, cond-false}
+use Rattle.std.proofs.lemmas.Bool.{and_parts, and_from, cases_lt, not-true, not_from_false, false_from_ne_true}
+use Rattle.std.proofs.lemmas.Bool.{cases_Bool, cond-true, cond-false}
 use Rattle.std.proofs.lemmas.Nat.{div-mul-add, mod-mul-add, mul-add-lt, mod_below}
 use Rattle.std.proofs.Math.Nat.{div-lt_iff_lt-mul}
 use Rattle.pbs_ast.specs.Trees.{Tree}
@@ -24,15 +26,18 @@ use Rattle.pbs_overlap.specs.Steps.{clash, refused_scope}
 use Rattle.pbs_overlap.specs.Stepping.{IsStep}
 use Rattle.pbs_overlap.specs.Joints.{joint_at}
 use Rattle.pbs_overlap.specs.Planning.{edge_at, IsPlan}
-use Rattle.pbs_overlap.specs.Search.{step_at, fit_at, first_at, marked_at, Between, Marked, Taken, TakenFrom, Leads, Reach, reach_start, reach_next, Searched}
+use Rattle.pbs_overlap.specs.Search.{step_at, fit_at, first_at, marked_at, Between, Marked, Taken, TakenFrom, Leads}
+use Rattle.pbs_overlap.specs.Search.{Reach, reach_start, reach_next, Searched}
 use Rattle.pbs_overlap.specs.Lowest.{IsLowest, refused_at, RefusesWith}
 use Rattle.pbs_overlap.specs.declared.ranges.ScopeRange.{ScopeRange}
 use Rattle.pbs_overlap.specs.Ranges.{ranges}
 use Rattle.pbs_overlap.specs.declared.pairs.Pairs.{Pairs}
 use Rattle.pbs_overlap.specs.Told.{says, TellsTogether}
 use Rattle.pbs_overlap.proofs.Spans.{few_rising}
-use Rattle.pbs_overlap.proofs.Plans.{in_tree, first_in_tree, edge_there, edge_listed_at, edge_number, start_number, start_there}
-use Rattle.pbs_overlap.proofs.Stepping.{IsEdgeOf, body_to, agree_from_steps, disagree_from_steps, refused_from_steps, least_from_steps}
+use Rattle.pbs_overlap.proofs.Plans.{in_tree, first_in_tree, edge_there, edge_listed_at, edge_number, start_number}
+use Rattle.pbs_overlap.proofs.Plans.{start_there}
+use Rattle.pbs_overlap.proofs.Stepping.{IsEdgeOf, body_to, agree_from_steps, disagree_from_steps, refused_from_steps}
+use Rattle.pbs_overlap.proofs.Stepping.{least_from_steps}
 
 positive : (m n : ℕ) → m < n * n → 0 < n
 positive m zero l = absurd (omega arith)
@@ -99,7 +104,8 @@ module _ (main : Tree) (number : IsNumbered main) (right : scopes_right main ≡
   no_clash : (i j : ℕ) → i < length plan.steps.items → j < length plan.steps.items
       → AbortsAgreeByNumber main (edge i) (edge j) → not (clash (step i) (step j)) ≡ true
   no_clash i j l m agree = not_from_false (clash (step i) (step j)) (false_from_ne_true (clash (step i) (step j)) (λ t.
-      disagree_from_steps main number right (edge i) (edge j) (step i) (step j) (is_edge i l) (is_edge j m) (is_step i l)
+      disagree_from_steps main number right (edge i) (edge j) (step i) (step j) (is_edge i l) (is_edge j m)
+      (is_step i l)
       (is_step j m) t agree))
 
   fit_from : (i j : ℕ) → i < length plan.steps.items → j < length plan.steps.items → Fits main (edge i) (edge j)
@@ -133,7 +139,8 @@ module _ (main : Tree) (number : IsNumbered main) (right : scopes_right main ≡
   unfolding edge
   from_place k l =
       let p = (edge_at edges.follows k).from in
-      let t : (edge_at edges.follows k).from < plan.places = let e = is.places in let f = (is_edge k l).from in omega arith in
+      let t : (edge_at edges.follows k).from < plan.places = let e = is.places in let f = (is_edge k l).from in
+      omega arith in
       let a = is.split (edge_at edges.follows k).from (omega arith) in
       let b = is.split ((edge_at edges.follows k).from + 1) (omega arith) in
       let n = is.size in (
@@ -153,30 +160,36 @@ module _ (main : Tree) (number : IsNumbered main) (right : scopes_right main ≡
     inside : cell < plan.places * plan.places
     reaches : Reaches main (cell / plan.places) (cell % plan.places)
 
-  said_of : (p q cell : ℕ) → p < plan.places → q < plan.places → cell ≡ p * plan.places + q → Reaches main p q → Said cell
+  said_of : (p q cell : ℕ) → p < plan.places → q < plan.places → cell ≡ p * plan.places + q → Reaches main p q
+      → Said cell
   said_of p q cell l m e r = record {
     inside = let z = mul-add-lt p plan.places q plan.places l m in omega arith;
-    reaches = subst (λ a. Reaches main a (cell % plan.places)) (sym (ap (λ c. c / plan.places) e ∙ div-mul-add p plan.places q m))
+    reaches = subst (λ a. Reaches main a (cell % plan.places))
+        (sym (ap (λ c. c / plan.places) e ∙ div-mul-add p plan.places q m))
         (subst (λ b. Reaches main p b) (sym (ap (λ c. c % plan.places) e ∙ mod-mul-add p plan.places q m)) r);
   }
 
-  row_column : (cell : ℕ) → cell < plan.places * plan.places → (cell / plan.places < plan.places) × (cell % plan.places < plan.places)
+  row_column : (cell : ℕ) → cell < plan.places * plan.places → (cell / plan.places < plan.places) ×
+      (cell % plan.places < plan.places)
   row_column cell l = (div_below cell plan.places l, rem_below cell plan.places l)
 
   started : (k : ℕ) → k < length edges.starts → slice_index edges.starts k < plan.places
   started k l = let e = is.places in
-      let f = first_in_tree main number (slice_index edges.starts k) (start_there main number edges known k l) in omega arith
+      let f = first_in_tree main number (slice_index edges.starts k) (start_there main number edges known k l) in
+      omega arith
 
   joint_said : (from i j : ℕ) → (edge i).from ≡ from / plan.places → (edge j).from ≡ from % plan.places
       → joint_at plan.terms (from / plan.places) (from % plan.places) ≡ true → joint_edges i j ≡ true
   unfolding joint_edges
-  joint_said from i j e f h = ap (λ p. joint_at plan.terms p (edge j).from) e ∙ ap (λ q. joint_at plan.terms (from / plan.places) q) f ∙ h
+  joint_said from i j e f h = ap (λ p. joint_at plan.terms p (edge j).from) e ∙ ap
+      (λ q. joint_at plan.terms (from / plan.places) q) f ∙ h
 
   said_to : (i j cell : ℕ) → i < length plan.steps.items → j < length plan.steps.items
       → cell ≡ (step_at plan.steps.items i).to * plan.places + (step_at plan.steps.items j).to
       → Reaches main (edge i).to (edge j).to → Said cell
   unfolding step
-  said_to i j cell l m e r = said_of (step_at plan.steps.items i).to (step_at plan.steps.items j).to cell ((is.shaped).tos i l)
+  said_to i j cell l m e r = said_of (step_at plan.steps.items i).to (step_at plan.steps.items j).to cell
+      ((is.shaped).tos i l)
       ((is.shaped).tos j m) e (subst (λ x. Reaches main x (step_at plan.steps.items j).to) (sym (to_is i l))
       (subst (λ y. Reaches main (edge i).to y) (sym (to_is j m)) r))
 
@@ -187,7 +200,8 @@ module _ (main : Tree) (number : IsNumbered main) (right : scopes_right main ≡
       let high = rem_below h.0 (length edges.starts) h.2 in
       let p : ℕ = slice_index edges.starts (h.0 / length edges.starts) in
       let q : ℕ = slice_index edges.starts (h.0 % length edges.starts) in
-      said_of (slice_index edges.starts (h.0 / length edges.starts)) (slice_index edges.starts (h.0 % length edges.starts)) cell
+      said_of (slice_index edges.starts (h.0 / length edges.starts))
+      (slice_index edges.starts (h.0 % length edges.starts)) cell
       (started (h.0 / length edges.starts) low) (started (h.0 % length edges.starts) high) (h.3).reached
       (reaches_begin main number (slice_index edges.starts (h.0 / length edges.starts))
       (slice_index edges.starts (h.0 % length edges.starts))
@@ -205,7 +219,8 @@ module _ (main : Tree) (number : IsNumbered main) (right : scopes_right main ≡
       let joint : joint_edges i j ≡ true = joint_said from i j a.1 b.1 h.joint in
       let f = fits_from i j a.0 b.0 joint t.fit in
       let before : Reaches main (edge i).from (edge j).from =
-      subst (λ x. Reaches main x (edge j).from) (sym a.1) (subst (λ y. Reaches main (from / plan.places) y) (sym b.1) s.reaches) in
+      subst (λ x. Reaches main x (edge j).from) (sym a.1)
+      (subst (λ y. Reaches main (from / plan.places) y) (sym b.1) s.reaches) in
       let next = reaches_next main number (edge i) (edge j) (listed i a.0) (listed j b.0) f before in
       said_to i j cell a.0 b.0 t.reached next
 
@@ -237,12 +252,14 @@ module _ (main : Tree) (number : IsNumbered main) (right : scopes_right main ≡
             inside,
             record {
               reached = ap (λ x. x * plan.places + q) p_is
-                  ∙ ap (λ y. slice_index edges.starts ((a.0 * length edges.starts + b.0) / length edges.starts) * plan.places + y) q_is;
+                  ∙ ap (λ y. slice_index edges.starts
+                  ((a.0 * length edges.starts + b.0) / length edges.starts) * plan.places + y) q_is;
             },
           );
         }
 
-    got_next : (d e : Edge) → OneOf (follow_edges main) d → OneOf (follow_edges main) e → Fits main d e → Got d.from e.from
+    got_next : (d e : Edge) → OneOf (follow_edges main) d → OneOf (follow_edges main) e → Fits main d e
+        → Got d.from e.from
         → Got d.to e.to
     unfolding edge joint_edges
     got_next d e h g f got =
@@ -256,22 +273,28 @@ module _ (main : Tree) (number : IsNumbered main) (right : scopes_right main ≡
         let from_b : (edge_at edges.follows b.0).from ≡ e.from = ap (λ (x : Edge). x.from) b.2 in
         let to_a : (step_at plan.steps.items a.0).to ≡ d.to = (is.steps a.0 a.1).to ∙ ap (λ (x : Edge). x.to) a.2 in
         let to_b : (step_at plan.steps.items b.0).to ≡ e.to = (is.steps b.0 b.1).to ∙ ap (λ (x : Edge). x.to) b.2 in
-        let row : (d.from * plan.places + e.from) / plan.places ≡ d.from = div-mul-add d.from plan.places e.from got.second in
-        let column : (d.from * plan.places + e.from) % plan.places ≡ e.from = mod-mul-add d.from plan.places e.from got.second in
+        let row : (d.from * plan.places + e.from) / plan.places
+        ≡ d.from = div-mul-add d.from plan.places e.from got.second in
+        let column : (d.from * plan.places + e.from) % plan.places
+        ≡ e.from = mod-mul-add d.from plan.places e.from got.second in
         let place_a = from_place a.0 i in
         let place_b = from_place b.0 j in
         let joint = joint_from a.0 b.0 i j fits in
         let taken : Taken plan a.0 b.0 (d.to * plan.places + e.to) = record {
           fit = fit_from a.0 b.0 i j fits;
-          reached = ap (λ x. x * plan.places + e.to) (sym to_a) ∙ ap (λ y. (step_at plan.steps.items a.0).to * plan.places + y) (sym to_b);
+          reached = ap (λ x. x * plan.places + e.to) (sym to_a) ∙ ap
+              (λ y. (step_at plan.steps.items a.0).to * plan.places + y) (sym to_b);
         } in
-        let from_there : TakenFrom plan (edge_at edges.follows a.0).from (edge_at edges.follows b.0).from (d.to * plan.places + e.to) =
+        let from_there : TakenFrom plan (edge_at edges.follows a.0).from (edge_at edges.follows b.0).from
+        (d.to * plan.places + e.to) =
         (a.0, place_a.0, place_a.1, (b.0, place_b.0, place_b.1, taken)) in
         let leads : Leads plan (d.from * plan.places + e.from) (d.to * plan.places + e.to) = record {
           joint = ap (λ x. joint_at plan.terms x ((d.from * plan.places + e.from) % plan.places)) (row ∙ sym from_a)
               ∙ ap (λ y. joint_at plan.terms (edge_at edges.follows a.0).from y) (column ∙ sym from_b) ∙ joint;
-          taken = subst (λ x. TakenFrom plan x ((d.from * plan.places + e.from) % plan.places) (d.to * plan.places + e.to)) (from_a ∙ sym row)
-              (subst (λ y. TakenFrom plan (edge_at edges.follows a.0).from y (d.to * plan.places + e.to)) (from_b ∙ sym column) from_there);
+          taken = subst (λ x. TakenFrom plan x ((d.from * plan.places + e.from) % plan.places)
+              (d.to * plan.places + e.to)) (from_a ∙ sym row)
+              (subst (λ y. TakenFrom plan (edge_at edges.follows a.0).from y (d.to * plan.places + e.to))
+              (from_b ∙ sym column) from_there);
         } in
         record {
           first = subst (λ x. x < plan.places) to_a ((is.shaped).tos a.0 i);
@@ -282,13 +305,15 @@ module _ (main : Tree) (number : IsNumbered main) (right : scopes_right main ≡
     got : (p q : ℕ) → Reaches main p q → Got p q
     got p q r = reaches_all main number Got got_start got_next p q r
 
-    reaches_from_mark : (p q : ℕ) → q < plan.places → Marked reached.marks.items (p * plan.places + q) → Reaches main p q
+    reaches_from_mark : (p q : ℕ) → q < plan.places → Marked reached.marks.items (p * plan.places + q)
+        → Reaches main p q
     reaches_from_mark p q l h =
         let s = said (searched.sound (p * plan.places + q) h) in
         subst (λ x. Reaches main x q) (div-mul-add p plan.places q l)
         (subst (λ y. Reaches main ((p * plan.places + q) / plan.places) y) (mod-mul-add p plan.places q l) s.reaches)
 
-    pub together_told : (p q : ℕ) → q < plan.places → Marked reached.marks.items (p * plan.places + q) ↔ Together main p q
+    pub together_told : (p q : ℕ) → q < plan.places → Marked reached.marks.items (p * plan.places + q)
+        ↔ Together main p q
     together_told p q l = (
       λ h. inl (reaches_from_mark p q l h),
       λ t. (got p q (reaches_from_together main p q t)).marked,
@@ -301,7 +326,8 @@ module _ (main : Tree) (number : IsNumbered main) (right : scopes_right main ≡
       places = places ∙ is.places;
       exact = λ p q a b.
           let l : q < plan.places = let e = is.places in omega arith in
-          let same : says pairs p q ≡ get_or reached.marks.items (p * plan.places + q) false = rw (places, table) refl in
+          let same : says pairs p q ≡ get_or reached.marks.items (p * plan.places + q) false = rw
+          (places, table) refl in
           let h = together_told p q l in
           ((λ t. h.0 (sym same ∙ t)), (λ t. same ∙ h.1 t));
     }
@@ -326,7 +352,8 @@ module _ (main : Tree) (number : IsNumbered main) (right : scopes_right main ≡
         elim (cases_Bool (lead i j && fit_at plan.steps.items i j)) [
           | inl t ↦
               let p = and_parts (lead i j) (fit_at plan.steps.items i j) t in
-              let q = and_parts (marked_at plan reached (step_at plan.steps.items i).from (step_at plan.steps.items j).from)
+              let q = and_parts (marked_at plan reached (step_at plan.steps.items i).from
+              (step_at plan.steps.items j).from)
               (joint_at plan.terms (step_at plan.steps.items i).from (step_at plan.steps.items j).from) p.0 in
               record {
                 marked = q.0;
@@ -388,10 +415,12 @@ module _ (main : Tree) (number : IsNumbered main) (right : scopes_right main ≡
         let reaches : Reaches main (edge_at edges.follows a.0).from (edge_at edges.follows b.0).from =
         subst (λ x. Reaches main x.from (edge_at edges.follows b.0).from) (sym a.2)
         (subst (λ y. Reaches main d.from y.from) (sym b.2) r) in
-        let lies : NodeInBody main (edge_at edges.follows a.0).node s = subst (λ x. NodeInBody main x.node s) (sym a.2) body in
+        let lies : NodeInBody main (edge_at edges.follows a.0).node s = subst (λ x. NodeInBody main x.node s)
+        (sym a.2) body in
         let goes : EntersByNumber main (edge_at edges.follows b.0).to (edge_at edges.follows b.0).node s =
         subst (λ x. EntersByNumber main x.to x.node s) (sym b.2) enters in
-        let t = least_from_steps main number right (edge a.0) (edge b.0) (step a.0) (step b.0) s (is_edge a.0 i) (is_edge b.0 j)
+        let t = least_from_steps main number right (edge a.0) (edge b.0) (step a.0) (step b.0) s (is_edge a.0 i)
+        (is_edge b.0 j)
         (is_step a.0 i) (is_step b.0 j) lies goes in
         let from_a = from_is a.0 i in
         let from_b = from_is b.0 j in
@@ -408,8 +437,10 @@ module _ (main : Tree) (number : IsNumbered main) (right : scopes_right main ≡
               omega arith,
               i,
               refusing_from a.0 b.0 t.0 (record {
-                marked = ap (λ p. get_or reached.marks.items (p * plan.places + (step_at plan.steps.items b.0).from) false) from_a
-                    ∙ ap (λ q. get_or reached.marks.items ((edge_at edges.follows a.0).from * plan.places + q) false) from_b ∙ marked;
+                marked = ap (λ p. get_or reached.marks.items
+                    (p * plan.places + (step_at plan.steps.items b.0).from) false) from_a
+                    ∙ ap (λ q. get_or reached.marks.items
+                    ((edge_at edges.follows a.0).from * plan.places + q) false) from_b ∙ marked;
                 joint = ap (λ p. joint_at plan.terms p (step_at plan.steps.items b.0).from) from_a
                     ∙ ap (λ q. joint_at plan.terms (edge_at edges.follows a.0).from q) from_b ∙ joint;
                 fit = fit_from a.0 b.0 i j fits;
@@ -427,7 +458,11 @@ module _ (main : Tree) (number : IsNumbered main) (right : scopes_right main ≡
         elim r.6 [
           | inl a ↦ refusing r.0 r.1 s r.2 r.3 r.4 r.5 a.0 a.1
           | inr b ↦ refusing r.1 r.0 s r.3 r.2
-              (record { terms = ((f.terms).0, (f.terms).2, (f.terms).1); aborts = f.aborts_back; aborts_back = f.aborts })
+              (record {
+                terms = ((f.terms).0, (f.terms).2, (f.terms).1);
+                aborts = f.aborts_back;
+                aborts_back = f.aborts;
+              })
               (reaches_from_together main (r.1).from (r.0).from (inr r.5)) b.1 b.0
         ]
 

@@ -1,5 +1,6 @@
 -- What marking cells does to the state of a search.
-use Rattle.std.proofs.Common.{◌≡◌, ℕ, ◌+◌, ◌<◌, ◌≤◌, Bool, true, false, cond, inl, inr, List, [], ◌∷◌, ◌++◌, length, get_or, set}
+use Rattle.std.proofs.Common.{◌≡◌, ℕ, ◌+◌, ◌<◌, ◌≤◌, Bool, true, false, cond, inl, inr, List, [], ◌∷◌, ◌++◌, length}
+use Rattle.std.proofs.Common.{get_or, set}
 use Rattle.std.proofs.Common.{refl, sym, ◌∙◌, ap, subst, arith, length-append, length-set}
 use Rattle.std.proofs.Math.ListN.{get_or-eq_default}
 use Rattle.std.specs.Prelude.{count_by}
@@ -30,7 +31,8 @@ module _ (marks : List Bool) (queue : List ℕ) (cell : ℕ) (inside : cell < le
     | inr n ↦ get_or-set_other marks cell i true false n ∙ h
   ]
 
-  pub mark_work : get_or marks cell false ≡ false → IsWork marks queue → IsWork (set marks cell true) (queue ++ cell ∷ [])
+  pub mark_work : get_or marks cell false ≡ false → IsWork marks queue → IsWork (set marks cell true)
+      (queue ++ cell ∷ [])
   mark_work unmarked work =
       let longer : length (queue ++ cell ∷ []) ≡ length queue + 1 = length-append queue (cell ∷ []) in
       let same : length (set marks cell true) ≡ length marks = length-set marks cell true in
@@ -42,7 +44,8 @@ module _ (marks : List Bool) (queue : List ℕ) (cell : ℕ) (inside : cell < le
               (old.0, let l = old.1 in omega arith, get_or_append_left queue (cell ∷ []) 0 old.0 old.1 ∙ old.2)
         ];
         marked = λ k l. elim (cases_lt k (length queue)) [
-          | inl below ↦ subst (λ n. Marked (set marks cell true) n) (sym (get_or_append_left queue (cell ∷ []) 0 k below))
+          | inl below ↦ subst (λ n. Marked (set marks cell true) n)
+              (sym (get_or_append_left queue (cell ∷ []) 0 k below))
               (mark-kept (get_or queue k 0) (work.marked k below))
           | inr last ↦ subst (λ n. Marked (set marks cell true) n) (sym (get_or_push queue cell 0 k (omega arith)))
               (get_or-set_same marks cell true false inside)
@@ -58,7 +61,8 @@ module _ (marks : List Bool) (queue : List ℕ) (cell : ℕ) (inside : cell < le
 -- the cell wasn't marked
 pub visits_new : (old new : Reached) (cell : ℕ) → cell < length old.marks.items
     → new.marks.items ≡ set old.marks.items cell true → new.queue.items ≡ old.queue.items ++ cell ∷ []
-    → get_or old.marks.items cell false ≡ false → IsWork old.marks.items old.queue.items → Visits (λ j. j ≡ cell) old new
+    → get_or old.marks.items cell false ≡ false → IsWork old.marks.items old.queue.items → Visits
+    (λ j. j ≡ cell) old new
 visits_new old new cell inside m q unmarked work = record {
   work = subst (λ ms. IsWork ms new.queue.items) (sym m)
       (subst (λ qs. IsWork (set old.marks.items cell true) qs) (sym q)

@@ -1,5 +1,6 @@
 -- Terms that can be true in one vector.
-use Rattle.std.specs.Prelude.{◌≡◌, ℕ, ◌+◌, ◌*◌, ◌/◌, ◌%◌, ◌<◌, ◌≤◌, ◌↔◌, Bool, true, false, List, length, slice_get, slice_index, slice_index_or, Some, IsTrue}
+use Rattle.std.specs.Prelude.{◌≡◌, ℕ, ◌+◌, ◌*◌, ◌/◌, ◌%◌, ◌<◌, ◌≤◌, ◌↔◌, Bool, true, false, List, length, slice_get}
+use Rattle.std.specs.Prelude.{slice_index, slice_index_or, Some, IsTrue}
 use Rattle.bool_terms.specs.Terms.{holds, term_of, term_inputs_below}
 use Rattle.bool_terms.specs.declared.Term.{Term}
 use Rattle.bool_bdd.specs.Diagrams.{AreDisjoint, IsNode, IsFor}

@@ -31,7 +31,8 @@ pub record AreSplit (edges : List Edge) (n : ℕ) (firsts : List ℕ) : Type 0 w
   pub each : (place : ℕ) → place < n → IsSplit edges place (slice_index firsts place)
 
 -- the first n edges as steps
-pub record AreStepsOf (leaves : List ℕ) (ranges : List ScopeRange) (edges : List Edge) (n : ℕ) (steps : List Step) : Type 0 where
+pub record AreStepsOf (leaves : List ℕ) (ranges : List ScopeRange) (edges : List Edge) (n : ℕ)
+    (steps : List Step) : Type 0 where
   pub size : length steps ≡ n
   pub each : (k : ℕ) → k < n → IsStepBy leaves ranges (edge_at edges k) (step_at steps k)
 

@@ -1,5 +1,6 @@
 -- What a follow edge aborts and enters, by ranges of node numbers.
-use Rattle.std.specs.Prelude.{◌≡◌, ℕ, ◌<◌, Bool, true, false, not, ◌&&◌, nat_eq, nat_lt, nat_le, List, Option, Some, None}
+use Rattle.std.specs.Prelude.{◌≡◌, ℕ, ◌<◌, Bool, true, false, not, ◌&&◌, nat_eq, nat_lt, nat_le, List, Option, Some}
+use Rattle.std.specs.Prelude.{None}
 use Rattle.std.specs.Prelude.{slice_get, if◌then◌else◌}
 use Rattle.pbs_overlap.specs.declared.ranges.ScopeRange.{ScopeRange}
 use Rattle.pbs_overlap.specs.declared.steps.Region.{Region}

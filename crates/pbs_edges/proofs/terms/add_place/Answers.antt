@@ -8,4 +8,5 @@ returns-then-len-gt-MOST_TERMS-clause-adds c = adds_full _ _ c.args.table.now (o
 pub returns-clause-adds : goal.returns-clause-adds
 returns-clause-adds c =
     adds_place _ c.in_ok-whole.whole.bytes.items _ c.in_ok-number.number _ _ c.in_ok-whole.ensures.bytes
-    c.in_ok-number.ensures.number c.in_ok-number.ensures.codes (rw (c.in_ok-push.ensures.ok, c.number_of.ensures.of_place))
+    c.in_ok-number.ensures.number c.in_ok-number.ensures.codes
+    (rw (c.in_ok-push.ensures.ok, c.number_of.ensures.of_place))

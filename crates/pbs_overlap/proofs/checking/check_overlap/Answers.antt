@@ -13,13 +13,15 @@ use Rattle.pbs_overlap.proofs.checking.check_overlap.Goals as goal
 pub search-requires-clause-few : goal.search-requires-clause-few
 search-requires-clause-few c =
     let m = c.args.main.now in
-    rw c.as_slice.ensures (few_starts (tree_of m.tree) (is_numbered (tree_of m.tree) (m.sound).counted) ((m.sound).proper).scopes
+    rw c.as_slice.ensures
+    (few_starts (tree_of m.tree) (is_numbered (tree_of m.tree) (m.sound).counted) ((m.sound).proper).scopes
     c.args.edges.now c.requires c.in_ok-plan.plan c.in_ok-plan.ensures)
 
 pub search-requires-clause-starts : goal.search-requires-clause-starts
 search-requires-clause-starts c =
     let m = c.args.main.now in
-    rw c.as_slice.ensures (starts_below (tree_of m.tree) (is_numbered (tree_of m.tree) (m.sound).counted) ((m.sound).proper).scopes
+    rw c.as_slice.ensures
+    (starts_below (tree_of m.tree) (is_numbered (tree_of m.tree) (m.sound).counted) ((m.sound).proper).scopes
     c.args.edges.now c.requires c.in_ok-plan.plan c.in_ok-plan.ensures)
 
 pub index-requires : goal.index-requires

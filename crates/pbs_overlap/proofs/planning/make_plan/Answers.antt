@@ -14,7 +14,8 @@ steps_of-requires-clause-places c =
     let main : Tree = tree_of c.args.main.now.tree in
     let numbers : c.deref.result.now ≡ leaves main =
     c.deref.ensures.value ∙ (c.in_ok-push_leaves.ensures ∙ ap (λ xs. xs ++ leaves main) c.new-leaves.ensures.items) in
-    rw (numbers, c.as_slice-follows.ensures) (edge_places main c.args.edges.now (c.args.main.now.sound).counted c.requires.edges)
+    rw (numbers, c.as_slice-follows.ensures)
+    (edge_places main c.args.edges.now (c.args.main.now.sound).counted c.requires.edges)
 
 pub firsts_of-requires-clause-few : goal.firsts_of-requires-clause-few
 firsts_of-requires-clause-few c =
@@ -33,7 +34,9 @@ returns c =
     let main : Tree = tree_of c.args.main.now.tree in
     let numbers : c.deref.result.now ≡ leaves main =
     c.deref.ensures.value ∙ (c.in_ok-push_leaves.ensures ∙ ap (λ xs. xs ++ leaves main) c.new-leaves.ensures.items) in
-    let places : c.len-places.result ≡ length c.deref.result.now = omega (arith, c.deref.ensures.len, c.len-places.ensures) in
-    is_plan main c.args.edges.now c.deref.result.now c.args.scopes.now _ (c.args.main.now.sound).counted c.requires.edges
+    let places : c.len-places.result ≡ length c.deref.result.now = omega
+    (arith, c.deref.ensures.len, c.len-places.ensures) in
+    is_plan main c.args.edges.now c.deref.result.now c.args.scopes.now _
+    (c.args.main.now.sound).counted c.requires.edges
     numbers c.requires.ranges places (rw c.as_slice-follows.ensures at c.in_ok-steps.ensures)
     (rw c.as_slice-follows.ensures at c.in_ok-firsts.ensures) c.in_ok-terms.ensures

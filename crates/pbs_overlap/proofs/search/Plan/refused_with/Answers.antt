@@ -3,5 +3,6 @@ use Rattle.pbs_overlap.specs.Lowest.{Refuses}
 use Rattle.pbs_overlap.proofs.search.Plan.refused_with.Goals as goal
 
 pub loop-i-preserved : goal.loop-i-preserved
-loop-i-preserved c = rw c.lower-lowest.ensures (lowest_more (Refuses c.args.self.now c.args.reached.now c.args.j) c.loop-i.i
+loop-i-preserved c = rw c.lower-lowest.ensures
+    (lowest_more (Refuses c.args.self.now c.args.reached.now c.args.j) c.loop-i.i
     c.loop-i.lowest c.refused_by.result c.loop-i.invariant (rw c.refused_by.ensures (lowest_one _)))
