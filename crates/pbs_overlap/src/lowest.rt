@@ -38,10 +38,11 @@ impl Plan {
         requires size { length reached.now.marks.items ≡ self.now.places * self.now.places }
         ensures { result ≡ refused_at self.now reached.now i j }
     {
+        let scope = self.steps[i].refused(&self.steps[j])?;
         let p = self.steps[i].from as usize;
         let q = self.steps[j].from as usize;
         if self.leads_on(reached, p, q) && self.fit(i, j) {
-            self.steps[i].refused(&self.steps[j])
+            Some(scope)
         } else {
             None
         }
