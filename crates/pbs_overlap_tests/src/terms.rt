@@ -58,6 +58,18 @@ fn parity(alloc: Global, inputs: u8) -> Result<Term, Memory>
     Ok(term)
 }
 
+// A term that is true where the input has this value.
+fn literal(alloc: Global, input: u8, set: bool) -> Result<Term, Memory>
+    requires { input < 64 }
+    ensures { IfOk result (λ whole. IsTrue (term_inputs_below 64 (term_of whole))) }
+{
+    if set {
+        Ok(Term::Input(input))
+    } else {
+        not(alloc, Term::Input(input))
+    }
+}
+
 // A term that is true where the first inputs are the number's lowest digits.
 fn minterm(alloc: Global, inputs: u8, number: u32) -> Result<Term, Memory>
     requires { inputs < 64 }
@@ -66,12 +78,7 @@ fn minterm(alloc: Global, inputs: u8, number: u32) -> Result<Term, Memory>
     let mut term = Term::Const(true);
     let mut rest = number;
     for input in 0..inputs {
-        let literal = if rest % 2 == 0 {
-            not(alloc, Term::Input(input))?
-        } else {
-            Term::Input(input)
-        };
-        term = both(alloc, term, literal)?;
+        term = both(alloc, term, literal(alloc, input, rest % 2 == 1)?)?;
         rest /= 2;
     }
     Ok(term)
