@@ -170,35 +170,3 @@ fn parities(rt: HostRuntime) -> Result<(), Fail> {
     }
     Ok(())
 }
-
-// The nodes of the parity and of a vector with one 1 are made first. Later nodes in the same store leave them as they
-// were.
-#[test]
-fn earlier_nodes(rt: HostRuntime) -> Result<(), Fail> {
-    let alloc = rt.alloc();
-    let odd_term = parity(alloc, 10).ok().ok_or("memory")?;
-    let one_term = minterm(alloc, 10, 0b00_0010_0000).ok().ok_or("memory")?;
-    let two_term = minterm(alloc, 10, 0b00_0010_0001).ok().ok_or("memory")?;
-    let mut store = Store::new(alloc);
-    let odd = store.of_term(&odd_term).ok().ok_or("memory")?;
-    let one = store.of_term(&one_term).ok().ok_or("memory")?;
-    let two = store.of_term(&two_term).ok().ok_or("memory")?;
-    let even_term = not(alloc, odd_term).ok().ok_or("memory")?;
-    let even = store.of_term(&even_term).ok().ok_or("memory")?;
-    let cases = [
-        (odd, odd, false),
-        (odd, one, false),
-        (odd, two, true),
-        (odd, even, true),
-        (even, odd, true),
-        (even, one, true),
-        (even, two, false),
-        (one, two, true),
-        (one, one, false),
-    ];
-    for (first, second, wanted) in cases {
-        let found = store.disjoint(alloc, first, second).ok().ok_or("memory")?;
-        assert_eq!(rt; found, wanted);
-    }
-    Ok(())
-}
