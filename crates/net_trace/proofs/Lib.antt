@@ -1,0 +1,13 @@
+pub mod RowLemmas
+pub mod WordLists
+pub mod RunLemmas
+pub mod ShowLemmas
+pub mod TextLemmas
+pub mod BreakLemmas
+pub mod OutcomeLemmas
+pub mod PieceLemmas
+pub mod FinishLemmas
+pub mod StandLemmas
+pub mod HeadLemmas
+pub mod OpenLemmas
+pub mod EndLemmas
