@@ -1,22 +1,19 @@
 -- How a run on a trace is answered.
-use Rattle.std.proofs.Common.{◌≡◌, ◌<◌, ◌≤◌, ℕ, min, List, [], ◌++◌, length, Option, Some, None, Result, Ok, Err}
+use Rattle.std.proofs.Common.{◌≡◌, ◌≤◌, ℕ, List, [], ◌++◌, Option, Some, None, Result, Ok, Err}
 use Rattle.std.proofs.Common.{refl, sym, ap, subst, ◌∙◌, inl, inr, arith, append_assoc, append-nil}
 use Rattle.std.specs.Option.{ForSome}
 use Rattle.std.specs.Io.KnownBytes.{append_known}
-use Rattle.pbs_base.specs.Outside.{ShelfState, SinkState, NamedFile, GoesOn, Rose, WritesFront, content_of}
+use Rattle.pbs_base.specs.Outside.{ShelfState, SinkState, WritesFront}
 use Rattle.pbs_base.specs.Refusal.{refusal_line}
 use Rattle.pbs_base.specs.declared.refusal.Refusal.{Refusal}
-use Rattle.pbs_base.proofs.WrittenLemmas.{append_known-nil, append_known-twice}
-use Rattle.pbs_ast.specs.declared.syntax.Spec.{Spec}
-use Rattle.pbs_engine.specs.declared.fail.RunFail.{RunFail}
-use Rattle.pbs_engine.specs.declared.fail.RunFail.TheVariants as fails
-use Rattle.pbs_engine.specs.Accepted.{Breaks, IsRun, IsNotRun, Broken}
-use Rattle.pbs_engine.specs.Load.{HasFailed}
-use Rattle.pbs_engine.specs.Outcomes.{Outcome, TextGives, OfRefused, WroteLines, WroteFront, RunEnds, text_task}
-use Rattle.pbs_engine.specs.Outcomes as outcomes
-use Rattle.pbs_cli.specs.Words.{Trace}
-use Rattle.pbs_cli.specs.Answers.{Answer, ended, Traces, OnOutcome, Wrote, CutShort, NeedsNoSecond, Ends, command_task}
-use Rattle.pbs_cli.specs.Parts.{WritesLine, Finishes, EndsTrace, text_answers}
+use Rattle.pbs_base.proofs.WrittenLemmas.{append_known-twice}
+use Rattle.net_trace.specs.Outcomes.{Outcome}
+use Rattle.net_trace.specs.Taken.{Stops}
+use Rattle.net_trace.specs.Endings.{RunTask, RunEnds, WroteLines, WroteFront}
+use Rattle.net_trace.specs.declared.fail.RunFail.{RunFail}
+use Rattle.net_trace.specs.declared.fail.RunFail.TheVariants as fails
+use Rattle.pbs_cli.specs.Answers.{ended, Wrote, CutShort, Ends}
+use Rattle.pbs_cli.specs.Parts.{WritesText, Finishes, Answered, OnGiven, run_answers}
 use Rattle.pbs_cli.specs.declared.status.Status.{Status}
 use Rattle.pbs_cli.specs.declared.status.Status.TheVariants.{Accepted, Refused, Usage, ReadFault, WriteFault, Memory}
 
@@ -31,20 +28,19 @@ text_is : (lines : List ℕ) (r : Option Refusal) → (ended lines r).text ≡ l
 text_is lines None = sym (append-nil lines)
 text_is lines (Some r) = refl
 
-whole_run : (text trace : List ℕ) (k m : SinkState) → WroteLines (TextGives text trace) None k m
-    → Wrote (Traces text trace) 0 k m
-whole_run text trace k m w = record {
+whole_run : (gives : Outcome → Type 0) (k m : SinkState) → WroteLines gives None k m → Wrote (Answered gives) 0 k m
+whole_run gives k m w = record {
   answer = ended w.outcome.lines w.outcome.refusal;
-  defined = OnOutcome w.outcome w.given;
+  defined = OnGiven w.outcome w.given;
   status_is = ap (λ r. (ended w.outcome.lines r).status) w.refusal_is;
   written = w.written ∙ ap (λ r. append_known k.written (ended w.outcome.lines r).text) (sym w.refusal_is);
 }
 
-refused_run : (text trace : List ℕ) (r : Refusal) (k m n : SinkState) → WroteLines (TextGives text trace) (Some r) k m
-    → n.written ≡ append_known m.written (refusal_line r) → Wrote (Traces text trace) 1 k n
-refused_run text trace r k m n w line = record {
+refused_run : (gives : Outcome → Type 0) (r : Refusal) (k m n : SinkState) → WroteLines gives (Some r) k m
+    → n.written ≡ append_known m.written (refusal_line r) → Wrote (Answered gives) 1 k n
+refused_run gives r k m n w line = record {
   answer = ended w.outcome.lines w.outcome.refusal;
-  defined = OnOutcome w.outcome w.given;
+  defined = OnGiven w.outcome w.given;
   status_is = ap (λ o. (ended w.outcome.lines o).status) w.refusal_is;
   written = line
       ∙ (ap (λ l. append_known l (refusal_line r)) w.written
@@ -52,16 +48,16 @@ refused_run text trace r k m n w line = record {
       ∙ ap (λ o. append_known k.written (ended w.outcome.lines o).text) (sym w.refusal_is)));
 }
 
-refusal_cut : (text trace : List ℕ) (r : Refusal) (k m n : SinkState) → WroteLines (TextGives text trace) (Some r) k m
-    → WritesFront m.written n.written (refusal_line r) → CutShort (Traces text trace) k n
-refusal_cut text trace r k m n w front = record {
+refusal_cut : (gives : Outcome → Type 0) (r : Refusal) (k m n : SinkState) → WroteLines gives (Some r) k m
+    → WritesFront m.written n.written (refusal_line r) → CutShort (Answered gives) k n
+refusal_cut gives r k m n w front = record {
   front = w.outcome.lines ++ front.front;
   written = front.written
       ∙ (ap (λ l. append_known l front.front) w.written
       ∙ append_known-twice k.written w.outcome.lines front.front);
   begins = inr (record {
     answer = ended w.outcome.lines w.outcome.refusal;
-    defined = OnOutcome w.outcome w.given;
+    defined = OnGiven w.outcome w.given;
     rest = front.rest;
     whole = append_assoc w.outcome.lines front.front front.rest
         ∙ (ap (λ l. w.outcome.lines ++ l) front.whole
@@ -69,16 +65,15 @@ refusal_cut text trace r k m n w front = record {
   });
 }
 
-run_cut : (text trace : List ℕ) (k m : SinkState) → WroteFront (TextGives text trace) k m
-    → CutShort (Traces text trace) k m
-run_cut text trace k m c = record {
+run_cut : (gives : Outcome → Type 0) (k m : SinkState) → WroteFront gives k m → CutShort (Answered gives) k m
+run_cut gives k m c = record {
   front = c.front;
   written = c.written;
   begins = elim c.begins [
     | inl none ↦ inl none
     | inr some ↦ inr (record {
       answer = ended some.outcome.lines some.outcome.refusal;
-      defined = OnOutcome some.outcome some.given;
+      defined = OnGiven some.outcome some.given;
       rest = some.rest ++ tail_of some.outcome.refusal;
       whole = sym (append_assoc c.front some.rest (tail_of some.outcome.refusal))
           ∙ (ap (λ l. l ++ tail_of some.outcome.refusal) some.whole_is
@@ -87,7 +82,7 @@ run_cut text trace k m c = record {
   ];
 }
 
--- ---- the bytes of a specification that is run
+-- ---- a run that has ended
 
 -- a status and a sink that are these
 at_once : (P : SinkState → Status → Type 0) (m n : SinkState) (done status : Status)
@@ -95,126 +90,33 @@ at_once : (P : SinkState → Status → Type 0) (m n : SinkState) (done status :
 at_once P m n done status is p =
     subst (λ s. P n s) (sym is.0) (subst (λ x. P x done) (sym is.1) p)
 
-refusal_finishes : (text name : List ℕ) (b c : ShelfState) (k m n : SinkState) (r : Refusal) (status : Status)
-    → ForSome b.files (λ files. WroteLines (TextGives text (content_of files name)) (Some r) k m)
-    → k.faults ≤ m.faults → WritesLine m n (refusal_line r) Refused status
-    → Ends (text_answers text name b) b c k n status
-refusal_finishes text name b c k m n r Refused w later line =
-    λ files told. refused_run text (content_of files name) r k m n (w files told) line.1
-refusal_finishes text name b c k m n r WriteFault w later line = (
-  (let rose = line.0 in omega arith),
-  λ files told. refusal_cut text (content_of files name) r k m n (w files told) line.1,
-)
-refusal_finishes text name b c k m n r Accepted w later line = absurd (let e = line.0 in cc)
-refusal_finishes text name b c k m n r Usage w later line = absurd (let e = line.0 in cc)
-refusal_finishes text name b c k m n r ReadFault w later line = absurd (let e = line.0 in cc)
-refusal_finishes text name b c k m n r Memory w later line = absurd (let e = line.0 in cc)
+module _ {A : Type 0} (told : Option A) (gives : A → Outcome → Type 0) (text : A → List ℕ)
+    (due : List ℕ → List ℕ → Type 0) (has : Type 0) (b c : ShelfState) (k m n : SinkState) where
+  abbrev task : RunTask A
+  task = record { told = told; gives = gives; text = text; stops = Stops due; has = has }
 
-pub run_finishes : (text name : List ℕ) (b c : ShelfState) (k m n : SinkState) (run : Result (Unit {0}) RunFail)
-    (status : Status) → RunEnds (text_task text name b) b c k m run → k.faults ≤ m.faults
-    → Finishes m n run status → Ends (text_answers text name b) b c k n status
-run_finishes text name b c k m n (Ok done) status w later is =
-    at_once (λ x s. Ends (text_answers text name b) b c k x s) m n Accepted status is
-    (λ files told. whole_run text (content_of files name) k m (w files told))
-run_finishes text name b c k m n (Err (fails.Refused r)) status w later is =
-    refusal_finishes text name b c k m n r status w later is
-run_finishes text name b c k m n (Err fails.ReadFault) status w later is =
-    at_once (λ x s. Ends (text_answers text name b) b c k x s) m n ReadFault status is (
-      record { needed = tt; rose = w.0.rose; never = w.0.never },
-      λ files told. run_cut text (content_of files name) k m (w.1 files told),
-    )
-run_finishes text name b c k m n (Err fails.WriteFault) status w later is =
-    at_once (λ x s. Ends (text_answers text name b) b c k x s) m n WriteFault status is
-    (w.0, λ files told. run_cut text (content_of files name) k m (w.1 files told))
-run_finishes text name b c k m n (Err fails.Memory) status w later is =
-    at_once (λ x s. Ends (text_answers text name b) b c k x s) m n Memory status is w
+  abbrev Answers : SinkState → Status → Type 0
+  Answers x status = Ends (run_answers task due) b c k x status
 
--- ---- `trace`
+  refusal_finishes : (r : Refusal) (status : Status) → ForSome told (λ a. WroteLines (gives a) (Some r) k m)
+      → k.faults ≤ m.faults → WritesText m n (refusal_line r) Refused status → Answers n status
+  refusal_finishes r Refused w later line = λ a is. refused_run (gives a) r k m n (w a is) line.1
+  refusal_finishes r WriteFault w later line =
+      ((let rose = line.0 in omega arith), λ a is. refusal_cut (gives a) r k m n (w a is) line.1)
+  refusal_finishes r Accepted w later line = absurd (let e = line.0 in cc)
+  refusal_finishes r Usage w later line = absurd (let e = line.0 in cc)
+  refusal_finishes r ReadFault w later line = absurd (let e = line.0 in cc)
+  refusal_finishes r Memory w later line = absurd (let e = line.0 in cc)
 
-wrote_more : (P Q : Answer → Type 0) (status : ℕ) (before now : SinkState) → ((a : Answer) → P a → Q a)
-    → Wrote P status before now → Wrote Q status before now
-wrote_more P Q status before now f w =
-    record { answer = w.answer; defined = f w.answer w.defined; status_is = w.status_is; written = w.written }
-
-pub traced : (spec name text : List ℕ) (a b c : ShelfState) (k m : SinkState) (status : Status) → GoesOn a b
-    → ForSome a.files (λ files. text ≡ content_of files spec) → EndsTrace text name b c k m status
-    → Ends (command_task (Trace spec name) a) a c k m status
-traced spec name text a b c k m status goes_on same w = by_status status w.ends
-  where
-    there : (files : List NamedFile) → a.files ≡ Some files → b.files ≡ Some files
-    there files told = goes_on.files ∙ told
-
-    by_status : (status : Status) → Ends (text_answers text name b) b c k m status
-        → Ends (command_task (Trace spec name) a) a c k m status
-    by_status Accepted e = λ files told.
-        subst (λ l. Wrote (Traces l (content_of files name)) 0 k m) (same files told) (e files (there files told))
-    by_status Refused e = λ files told.
-        subst (λ l. Wrote (Traces l (content_of files name)) 1 k m) (same files told) (e files (there files told))
-    by_status WriteFault e = (
-      e.0,
-      λ files told.
-          subst (λ l. CutShort (Traces l (content_of files name)) k m) (same files told) (e.1 files (there files told)),
-    )
-    by_status Memory e = e
-    by_status Usage e = absurd e
-    by_status ReadFault e = (
-      record {
-        needed = tt;
-        rose = (let rose = e.0.rose in let later = goes_on.later in omega arith);
-        never = λ calm has. e.0.never (goes_on.sound calm) (record {
-          files = has.files;
-          are_told = there has.files has.are_told;
-          holds = λ s run.
-              has.holds.1 s (subst (λ l. IsRun l s) (same has.files has.are_told) run);
-        });
-      },
-      λ files told.
-          subst (λ l. CutShort (Traces l (content_of files name)) k m) (same files told) (e.1 files (there files told)),
-    )
-
-pub second_left : (spec name text : List ℕ) (a b c : ShelfState) (k m : SinkState) (status : Status)
-    → b.slots 1 ≡ a.slots 1 → ForSome a.files (λ files. text ≡ content_of files spec)
-    → EndsTrace text name b c k m status
-    → ForSome a.files (λ files. NeedsNoSecond (Trace spec name) files → c.slots 1 ≡ a.slots 1)
-second_left spec name text a b c k m status other same w files told refused =
-    ap (λ (s : ShelfState). s.slots 1)
-    (w.untouched refused.0 (subst (λ l. IsNotRun l refused.0) (sym (same files told)) refused.1)) ∙ other
-
-pub trace_refused : (spec name : List ℕ) (r : Refusal) (a b : ShelfState) (k m : SinkState) (status : Status)
-    → ForSome a.files (λ files. Breaks (content_of files spec) r) → WritesLine k m (refusal_line r) Refused status
-    → Ends (command_task (Trace spec name) a) a b k m status
-trace_refused spec name r a b k m Refused is w = λ files told.
-    record {
-      answer = ended [] (Some r);
-      defined = OnOutcome (outcomes.refused r) (OfRefused (Broken (is files told)));
-      status_is = refl;
-      written = w.1;
-    }
-trace_refused spec name r a b k m WriteFault is w = (
-  w.0,
-  λ files told. record {
-    front = w.1.front;
-    written = w.1.written;
-    begins = inr (record {
-      answer = ended [] (Some r);
-      defined = OnOutcome (outcomes.refused r) (OfRefused (Broken (is files told)));
-      rest = w.1.rest;
-      whole = w.1.whole;
-    });
-  },
-)
-trace_refused spec name r a b k m Accepted is w = absurd (let e = w.0 in cc)
-trace_refused spec name r a b k m Usage is w = absurd (let e = w.0 in cc)
-trace_refused spec name r a b k m ReadFault is w = absurd (let e = w.0 in cc)
-trace_refused spec name r a b k m Memory is w = absurd (let e = w.0 in cc)
-
-pub trace_failed : (spec name : List ℕ) (a b : ShelfState) (k : SinkState) → HasFailed a b spec
-    → Ends (command_task (Trace spec name) a) a b k k ReadFault
-trace_failed spec name a b k failed = (
-  record {
-    needed = tt;
-    rose = failed.rose;
-    never = λ calm has. failed.never calm has.files has.are_told has.holds.0;
-  },
-  λ files told. record { front = []; written = sym (append_known-nil k.written); begins = inl refl },
-)
+  pub run_finishes : (run : Result (Unit {0}) RunFail) (status : Status) → RunEnds task b c k m run
+      → k.faults ≤ m.faults → Finishes m n run status → Answers n status
+  run_finishes (Ok done) status w later is = at_once Answers m n Accepted status is
+      (λ a told_is. whole_run (gives a) k m (w.1 a told_is))
+  run_finishes (Err (fails.Refused r)) status w later is = refusal_finishes r status w later is
+  run_finishes (Err fails.ReadFault) status w later is = at_once Answers m n ReadFault status is (
+    record { needed = tt; rose = w.0.rose; never = w.0.never },
+    λ a told_is. record { front = run_cut (gives a) k m (w.1 a told_is).front; taken = (w.1 a told_is).taken },
+  )
+  run_finishes (Err fails.WriteFault) status w later is = at_once Answers m n WriteFault status is
+      (w.0, λ a told_is. run_cut (gives a) k m (w.1 a told_is))
+  run_finishes (Err fails.Memory) status w later is = at_once Answers m n Memory status is w

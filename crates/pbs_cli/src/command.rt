@@ -4,6 +4,8 @@ ghost use Rattle.pbs_cli.specs.Words.{command_of, meant, texts};
 
 pub(crate) enum Words<'a> {
     Check(&'a str),
+    Compile(&'a str),
+    Sim(&'a str, &'a str),
     Trace(&'a str, &'a str),
     Usage,
 }
@@ -14,6 +16,10 @@ pub(crate) fn parse<'a>(words: &'a [String]) -> Words<'a>
 {
     match words {
         [word, spec] if word.as_str() == "check" => Words::Check(spec.as_str()),
+        [word, spec] if word.as_str() == "compile" => Words::Compile(spec.as_str()),
+        [word, netlist, trace] if word.as_str() == "sim" => {
+            Words::Sim(netlist.as_str(), trace.as_str())
+        }
         [word, spec, trace] if word.as_str() == "trace" => {
             Words::Trace(spec.as_str(), trace.as_str())
         }

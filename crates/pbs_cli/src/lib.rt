@@ -3,8 +3,11 @@
 
 mod checking;
 mod command;
+mod compiling;
 mod first;
 pub mod laws;
+mod running;
+mod simulating;
 mod status;
 mod top;
 mod tracing;

@@ -3,12 +3,17 @@ ghost use Rattle.std.specs.Prelude.{◌≡◌, ◌↔◌, ◌<◌, ◌≤◌, �
 ghost use Rattle.std.specs.Option.{ForSome};
 ghost use Rattle.pbs_base.specs.Outside.{Rose};
 ghost use Rattle.pbs_cli.specs.Words.{command_of, texts, Usage};
-ghost use Rattle.pbs_cli.specs.Answers.{Wrote, CutShort, Defines, NeedsFiles, NeedsNoSecond, HasNeeded, Ends};
-ghost use Rattle.pbs_cli.specs.Answers.{command_task};
+ghost use Rattle.net_trace.specs.Endings.{WroteTaken};
+ghost use Rattle.net_trace.specs.Taken.{Stops, TakesAtMost, TakesLittle};
+ghost use Rattle.pbs_cli.specs.Answers.{Wrote, CutShort, Defines, NeedsFiles, NeedsNoSecond, HasNeeded};
+ghost use Rattle.pbs_cli.specs.Answers.{DueRows, trace_of};
+ghost use Rattle.pbs_cli.specs.Parts.{EndsCommand};
 ghost use Rattle.pbs_cli.specs.declared.status.Status.TheVariants as status;
 
 use crate::checking::check_file;
 use crate::command::{Words, parse};
+use crate::compiling::compile_file;
+use crate::simulating::sim_files;
 use crate::status::{Status, code};
 use crate::tracing::trace_files;
 use pbs_base::{Shelf, Sink};
@@ -43,6 +48,23 @@ pub fn run<S: Shelf, K: Sink>(alloc: Global, words: &[String], shelf: &mut S, ou
     // 5: nothing was written.
     ensures memory { result ≡ 5 → (K.state out.new).written ≡ (K.state out.old).written }
 
+    // 3: until the header's newline was taken from the second slot, nothing was written; from then on exactly the line
+    // of row 0 and those of the rows whose newlines were taken. 3 doesn't come once a refusal is among the bytes taken.
+    ensures stopped { result ≡ 3 → ForSome (S.state shelf.old).files (λ files.
+        WroteTaken (Stops (DueRows (command_of (texts words.now)) files))
+        (trace_of (command_of (texts words.now)) files)
+        ((S.state shelf.old).slots 1) ((S.state shelf.new).slots 1) (K.state out.old) (K.state out.new)) }
+
+    // 5: at most 65,536 bytes of the trace behind its header were taken.
+    ensures little { result ≡ 5 → ForSome (S.state shelf.old).files (λ files.
+        TakesLittle (trace_of (command_of (texts words.now)) files)
+        ((S.state shelf.old).slots 1) ((S.state shelf.new).slots 1)) }
+
+    // At most 67,108,865 bytes of the trace were taken, and none where the words have no trace.
+    ensures few { ForSome (S.state shelf.old).files (λ files.
+        TakesAtMost 67108865 (trace_of (command_of (texts words.now)) files)
+        ((S.state shelf.old).slots 1) ((S.state shelf.new).slots 1)) }
+
     // Where the first file is refused, the second slot is left as it was.
     ensures second { ForSome (S.state shelf.old).files (λ files.
         NeedsNoSecond (command_of (texts words.now)) files
@@ -61,15 +83,14 @@ fn perform<S: Shelf, K: Sink>(alloc: Global, words: &[String], shelf: &mut S, ou
     ensures usage { (result ≡ status.Usage) ↔ (command_of (texts words.now) ≡ Usage) }
     ensures untouched { result ≡ status.Usage → (shelf.new ≡ shelf.old) × (out.new ≡ out.old) }
     ensures ends { result ≢ status.Usage
-        → Ends (command_task (command_of (texts words.now)) (S.state shelf.old)) (S.state shelf.old)
-        (S.state shelf.new) (K.state out.old) (K.state out.new) result }
-    ensures second { ForSome (S.state shelf.old).files (λ files.
-        NeedsNoSecond (command_of (texts words.now)) files
-        → (S.state shelf.new).slots 1 ≡ (S.state shelf.old).slots 1) }
+        → EndsCommand (command_of (texts words.now)) (S.state shelf.old) (S.state shelf.new)
+        (K.state out.old) (K.state out.new) result }
 {
     match parse(words) {
         Words::Usage => Status::Usage,
         Words::Check(spec) => check_file(alloc, spec, shelf, out),
+        Words::Compile(spec) => compile_file(alloc, spec, shelf, out),
+        Words::Sim(netlist, name) => sim_files(alloc, netlist, name, shelf, out),
         Words::Trace(spec, name) => trace_files(alloc, spec, name, shelf, out),
     }
 }

@@ -1,11 +1,7 @@
-pub mod EachLemmas
-pub mod TraceLemmas
 pub mod LoadLemmas
-pub mod RowLemmas
-pub mod ReportLemmas
 pub mod FrontLemmas
 pub mod LawLemmas
-pub mod WordLists
-pub mod SimulationLemmas
-pub mod TracingLemmas
+pub mod MadeLemmas
+pub mod RightLemmas
+pub mod EndLemmas
 pub mod OutcomeLaws

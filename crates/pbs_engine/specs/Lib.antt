@@ -1,6 +1,5 @@
-pub mod ThinTraces
 pub mod Load
-pub mod NetReports
 pub mod Accepted
-pub mod Outcomes
 pub mod Made
+pub mod Right
+pub mod Outcomes

@@ -1,4 +1,4 @@
-// How the commands fail.
+// Why a specification is not passed on.
 use pbs_base::Refusal;
 use thiserror::Error;
 
@@ -8,22 +8,6 @@ pub enum EngineFail {
     /// The first broken rule, and its place.
     #[error("the specification is refused")]
     Refused(Refusal),
-    #[error("no memory was found")]
-    Memory,
-}
-
-/// Why a run on a trace didn't come to its end.
-#[derive(Clone, Copy, Debug, PartialEq, Eq, Error)]
-pub enum RunFail {
-    /// The first broken rule of the specification or of the trace, and its place.
-    #[error("the specification or the trace is refused")]
-    Refused(Refusal),
-    /// The shelf failed.
-    #[error("the shelf failed")]
-    ReadFault,
-    /// The sink failed.
-    #[error("the sink failed")]
-    WriteFault,
     #[error("no memory was found")]
     Memory,
 }

@@ -21,9 +21,8 @@ pub struct Found {
     pub main: Main,
 }
 
-/// Whether the text breaks none of the rules 1 to 11, 18, 19, 12 and 13. `Refused` has the first of them that is
-/// broken,
-/// in this order, and its place: docs/LANGUAGE.md, "Rules".
+/// Whether the text breaks none of the rules 1 to 11, 18, 19, 12 and 13. `Refused` has the first of them, in this
+/// order, that is broken, and its place: docs/LANGUAGE.md, "Rules".
 pub fn check(alloc: Global, text: &[u8]) -> Result<(), EngineFail>
     ensures { Checks text.now result }
 {

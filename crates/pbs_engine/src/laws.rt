@@ -3,7 +3,8 @@ ghost use Rattle.std.specs.Prelude.{◌≡◌, List, ℕ};
 ghost use Rattle.pbs_base.specs.declared.refusal.Refusal.{Refusal};
 ghost use Rattle.pbs_ast.specs.declared.syntax.Spec.{Spec};
 ghost use Rattle.pbs_engine.specs.Accepted.{Breaks, IsAccepted, IsNotRun, IsRun};
-ghost use Rattle.pbs_engine.specs.Outcomes.{Outcome, TextGives};
+ghost use Rattle.net_trace.specs.Outcomes.{Outcome};
+ghost use Rattle.pbs_engine.specs.Outcomes.{TextGives};
 
 use pbs_check::laws::one_refusal;
 use pbs_read::one_answer;

@@ -1,120 +1,24 @@
 // Runs the controller of a specification on a trace.
-ghost use Rattle.std.specs.Prelude.{◌≡◌, ◌≤◌, None, IfOk};
-ghost use Rattle.pbs_base.specs.Outside.{GoesOn};
-ghost use Rattle.pbs_base.specs.declared.refusal.Refusal.{Refusal};
-ghost use Rattle.pbs_ast.specs.Sound.{or_else};
-ghost use Rattle.pbs_ast.specs.Trees.{tree_of};
-ghost use Rattle.pbs_read.specs.Bare.{bare};
-ghost use Rattle.pbs_rules.specs.Naming.{action_names, input_names};
-ghost use Rattle.pbs_check.specs.Checked.{IsUnbroken};
-ghost use Rattle.pbs_expand.specs.Ready.{NamesDeclared};
-ghost use Rattle.pbs_controller.specs.Controllers.{IsController};
-ghost use Rattle.pbs_engine.specs.Accepted.{IsFound, IsNotRun, first_level, first_scope, unbuilt};
-ghost use Rattle.pbs_engine.specs.Made.{IsMade, Makes};
-ghost use Rattle.pbs_engine.specs.Outcomes.{RunEnds, text_task};
+ghost use Rattle.std.specs.Prelude.{◌≡◌, ◌≤◌};
+ghost use Rattle.std.specs.Option.{ForSome};
+ghost use Rattle.pbs_base.specs.Outside.{GoesOn, content_of};
+ghost use Rattle.pbs_base.specs.declared.refusal.Refusal.{Refusal as RefusalValue};
+ghost use Rattle.net_trace.specs.Endings.{RunEnds};
+ghost use Rattle.net_trace.specs.Taken.{TakesAtMost};
+ghost use Rattle.pbs_engine.specs.Accepted.{IsNotRun};
+ghost use Rattle.pbs_engine.specs.Outcomes.{text_task};
 
-use crate::fail::{EngineFail, RunFail};
-use crate::front::{Found, find};
+use crate::compiling::read_back;
+use crate::fail::EngineFail;
 use crate::laws::one_run;
-use crate::simulation::simulate;
-use crate::words::names_of;
-use net_core::Netlist;
-use pbs_ast::{Spec, Tree, TreeKind};
-use pbs_base::{Memory, Names, Refusal, Shelf, Sink, Span, Subject};
-use pbs_check::laws::{declared_once, within_limits};
-use pbs_controller::build_controller;
-use pbs_rules::{action_words, input_words};
+use net_trace::{RunFail, simulate};
+use pbs_base::{Shelf, Sink};
 use std::alloc::Global;
 
-// The first span, or else the second.
-fn either(first: Option<Span>, second: Option<Span>) -> Option<Span>
-    ensures { result ≡ or_else first second }
-{
-    match first {
-        Some(span) => Some(span),
-        None => second,
-    }
-}
-
-// The span of the first scope in the order of visits.
-fn first_scope(tree: &Tree) -> Option<Span>
-    ensures { result ≡ first_scope (tree_of tree.now) }
-{
-    match &tree.kind {
-        TreeKind::Empty | TreeKind::Terminal(_, _) | TreeKind::Action(_) => None,
-        TreeKind::Seq(first, second) | TreeKind::Choice(first, second) => {
-            either(first_scope(first), first_scope(second))
-        }
-        TreeKind::Star(body) | TreeKind::Hold(_, body) => first_scope(body),
-        TreeKind::Scope(_, _, _, _) => Some(tree.span),
-    }
-}
-
-fn first_level(spec: &Spec) -> Option<Span>
-    ensures { result ≡ first_level spec.now }
-{
-    match spec.levels.get(0) {
-        Some(level) => Some(level.span),
-        None => None,
-    }
-}
-
-// Rule 17.
-fn unbuilt(span: Span) -> Refusal
-    ensures { result ≡ unbuilt span }
-{
-    Refusal {
-        subject: Subject::Spec,
-        rule: 17,
-        span,
-    }
-}
-
-// The controller of the specification that the text stands for.
-fn make(alloc: Global, text: &[u8]) -> Result<Netlist, EngineFail>
-    ensures { Makes text.now result }
-{
-    let found = match find(alloc, text) {
-        Ok(found) => found,
-        Err(fail) => return Err(fail),
-    };
-    match either(first_scope(&found.main.tree), first_level(&found.spec)) {
-        Some(span) => Err(EngineFail::Refused(unbuilt(span))),
-        None => make_found(alloc, text, &found),
-    }
-}
-
-// The controller of a specification without scopes and levels.
-fn make_found(alloc: Global, text: &[u8], found: &Found) -> Result<Netlist, EngineFail>
-    requires found { IsFound text.now found.now }
-    requires built { or_else (first_scope (tree_of found.now.main.tree)) (first_level found.now.spec) ≡ None }
-    ensures { Makes text.now result }
-{
-    match controller_of(alloc, found) {
-        Ok(net) => Ok(net),
-        Err(_) => Err(EngineFail::Memory),
-    }
-}
-
-// The netlist of a specification that was found.
-fn controller_of(alloc: Global, found: &Found) -> Result<Netlist, Memory>
-    requires unbroken { IsUnbroken (bare found.now.spec) }
-    requires names { NamesDeclared found.now.spec (tree_of found.now.main.tree) }
-    ensures { IfOk result (λ net. IsController (input_names found.now.spec.inputs)
-        (action_names found.now.spec.actions) (tree_of found.now.main.tree) net) }
-{
-    declared_once();
-    within_limits();
-    let input_list = input_words(alloc, &found.spec.inputs)?;
-    let action_list = action_words(alloc, &found.spec.actions)?;
-    let inputs = names_of(alloc, input_list.as_slice())?;
-    let actions = names_of(alloc, action_list.as_slice())?;
-    build_controller(alloc, &inputs, &actions, &found.main)
-}
-
-/// Reads, checks and expands the specification, builds its controller, and writes the report of the controller on the
-/// named trace, which is opened in slot 1. `Refused` comes by the rules of `check`, by rule 17 where the specification
-/// has a scope or a level, or by the rules of the trace; by the first two nothing is opened or written.
+/// Compiles the specification, reads its Verilog back, and writes the report of that netlist on the named trace, which
+/// is opened in slot 1: each row is written as it comes, and the line of the refusal in which a trace may end isn't
+/// written. `Refused` comes by the rules of `check`, by rule 17 where the specification has a scope or a level, or by
+/// the rules of traces; by the first two nothing is opened or written.
 pub fn trace<S: Shelf, K: Sink>(
     alloc: Global,
     text: &[u8],
@@ -127,10 +31,12 @@ pub fn trace<S: Shelf, K: Sink>(
     ensures later { (K.state sink.old).faults ≤ (K.state sink.new).faults }
     ensures ends { RunEnds (text_task text.now name.now (S.state shelf.old)) (S.state shelf.old) (S.state shelf.new)
         (K.state sink.old) (K.state sink.new) result }
-    ensures untouched { (r : Refusal) → IsNotRun text.now r → (shelf.new ≡ shelf.old) × (sink.new ≡ sink.old) }
+    ensures few { ForSome (S.state shelf.old).files (λ files. TakesAtMost 67108865 (content_of files name.now)
+        ((S.state shelf.old).slots 1) ((S.state shelf.new).slots 1)) }
+    ensures untouched { (r : RefusalValue) → IsNotRun text.now r → (shelf.new ≡ shelf.old) × (sink.new ≡ sink.old) }
 {
     one_run();
-    match make(alloc, text) {
+    match read_back(alloc, text) {
         Ok(net) => simulate(alloc, &net, shelf, name, sink),
         Err(EngineFail::Refused(refusal)) => Err(RunFail::Refused(refusal)),
         Err(EngineFail::Memory) => Err(RunFail::Memory),

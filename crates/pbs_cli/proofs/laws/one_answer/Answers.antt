@@ -6,4 +6,8 @@ returns c = one_defined (record {
   refusal = c.one_check.ensures.refusal;
   apart = c.one_check.ensures.apart;
   outcome = c.one_outcome.ensures;
+  net = c.one_answer.ensures.net;
+  bad_net = c.one_answer.ensures.refusal;
+  net_apart = c.one_answer.ensures.apart;
+  row = c.one_assignment.ensures;
 })

@@ -1,27 +1,49 @@
-use Rattle.std.proofs.Common.{ap, sym, subst}
-use Rattle.pbs_base.specs.Outside.{ShelfState, SinkState}
-use Rattle.pbs_cli.specs.Parts.{EndsTrace}
-use Rattle.pbs_cli.proofs.RunLemmas.{traced, second_left, trace_refused, trace_failed}
+use Rattle.std.proofs.Common.{◌≡◌, subst, sym, refl}
+use Rattle.pbs_base.specs.declared.refusal.Refusal.{Refusal}
+use Rattle.pbs_engine.specs.Accepted.{IsNotRun, Broken}
+use Rattle.net_trace.specs.Outcomes as run
+use Rattle.pbs_engine.specs.Outcomes as outcomes
+use Rattle.pbs_cli.specs.Words.{Trace}
+use Rattle.pbs_cli.specs.Answers.{Answer, refused, Defines, OnOutcome}
+use Rattle.pbs_cli.specs.Parts.{trace_answers}
+use Rattle.pbs_cli.proofs.AnswerLemmas.{refuses}
+use Rattle.pbs_cli.proofs.CommandLemmas.{settled, failed, no_memory, went_on}
+use Rattle.pbs_cli.proofs.PartLemmas.{trace_command}
 use Rattle.pbs_cli.proofs.tracing.trace_files.Goals as goal
 
-pub returns-in-Text-clause-ends : goal.returns-in-Text-clause-ends
-returns-in-Text-clause-ends g c =
-    let ends = rw c.as_slice.ensures.value at c.trace_text.ensures in
-    traced c.args.spec.now c.args.name.now c.in-Text.bytes.items (g.S.Shelf.state c.args.shelf.now)
-    (g.S.Shelf.state c.read_first.new.shelf) (g.S.Shelf.state c.trace_text.new.shelf)
-    (g.K.Sink.state c.args.out.now) (g.K.Sink.state c.trace_text.new.out) c.trace_text.result
-    c.in-Text.ensures.goes_on c.in-Text.ensures.gives ends
+pub returns-in-Text : goal.returns-in-Text
+returns-in-Text g c =
+    let text = c.in-Text.bytes.items in
+    let read = c.in-Text.ensures in
+    went_on (Trace c.args.spec.now c.args.name.now)
+    (trace_answers text c.args.name.now (g.S.Shelf.state c.read_spec.new.shelf))
+    ((r : Refusal) × IsNotRun text r) (g.S.Shelf.state c.args.shelf.now) (g.S.Shelf.state c.read_spec.new.shelf)
+    (g.S.Shelf.state c.trace_text.new.shelf) (g.K.Sink.state c.args.out.now) (g.K.Sink.state c.trace_text.new.out)
+    c.trace_text.result read.goes_on read.other
+    (trace_command c.args.spec.now c.args.name.now text (g.S.Shelf.state c.args.shelf.now)
+    (g.S.Shelf.state c.read_spec.new.shelf) read.goes_on read.gives)
+    (λ files told none. (none.0, subst (λ l. IsNotRun l none.0) (sym (read.gives files told)) none.1))
+    (rw c.as_slice.ensures.value at c.trace_text.ensures)
 
-pub returns-in-Text-clause-second : goal.returns-in-Text-clause-second
-returns-in-Text-clause-second g c =
-    let ends = rw c.as_slice.ensures.value at c.trace_text.ensures in
-    second_left c.args.spec.now c.args.name.now c.in-Text.bytes.items (g.S.Shelf.state c.args.shelf.now)
-    (g.S.Shelf.state c.read_first.new.shelf) (g.S.Shelf.state c.trace_text.new.shelf)
-    (g.K.Sink.state c.args.out.now) (g.K.Sink.state c.trace_text.new.out) c.trace_text.result
-    c.in-Text.ensures.other c.in-Text.ensures.gives ends
+pub returns-in-Refused : goal.returns-in-Refused
+returns-in-Refused g c =
+    let one : Answer → Type 0 = λ answer. answer ≡ refused c.in-Refused.refusal in
+    let command = Trace c.args.spec.now c.args.name.now in
+    settled command one (g.S.Shelf.state c.args.shelf.now) (g.S.Shelf.state c.read_spec.new.shelf)
+    (g.K.Sink.state c.args.out.now) (g.K.Sink.state c.refuse.new.out) c.refuse.result c.in-Refused.ensures.other
+    (λ files told answer is. subst (Defines command files) (sym is)
+    (OnOutcome (run.refused c.in-Refused.refusal)
+    (outcomes.OfRefused (Broken (c.in-Refused.ensures.gives files told)))))
+    (refuses one c.in-Refused.refusal (g.K.Sink.state c.args.out.now) (g.K.Sink.state c.refuse.new.out)
+    c.refuse.result refl c.refuse.ensures)
 
-pub returns-in-Refused-clause-ends : goal.returns-in-Refused-clause-ends
-returns-in-Refused-clause-ends g c =
-    trace_refused c.args.spec.now c.args.name.now c.in-Refused.refusal (g.S.Shelf.state c.args.shelf.now)
-    (g.S.Shelf.state c.read_first.new.shelf) (g.K.Sink.state c.args.out.now) (g.K.Sink.state c.refuse.new.out)
-    c.refuse.result c.in-Refused.ensures.gives c.refuse.ensures
+pub returns-in-Fault : goal.returns-in-Fault
+returns-in-Fault g c =
+    failed (Trace c.args.spec.now c.args.name.now) c.args.spec.now (g.S.Shelf.state c.args.shelf.now)
+    (g.S.Shelf.state c.read_spec.new.shelf) (g.K.Sink.state c.args.out.now) c.in-Fault.ensures.other tt
+    (λ files has. has.0) c.in-Fault.ensures.gives
+
+pub returns-in-Memory : goal.returns-in-Memory
+returns-in-Memory g c =
+    no_memory (Trace c.args.spec.now c.args.name.now) (g.S.Shelf.state c.args.shelf.now)
+    (g.S.Shelf.state c.read_spec.new.shelf) (g.K.Sink.state c.args.out.now) c.in-Memory.ensures.other

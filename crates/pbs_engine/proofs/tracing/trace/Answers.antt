@@ -1,7 +1,7 @@
-use Rattle.std.proofs.Common.{Err}
-use Rattle.pbs_engine.specs.Made.{Makes}
+use Rattle.std.proofs.Common.{Err, refl}
+use Rattle.pbs_engine.specs.Right.{ReadsBack}
 use Rattle.pbs_engine.specs.declared.fail.EngineFail.TheVariants as engine
-use Rattle.pbs_engine.proofs.TracingLemmas.{net_ends, text_refused}
+use Rattle.pbs_engine.proofs.EndLemmas.{net_ends, text_refused, little, few}
 use Rattle.pbs_engine.proofs.tracing.trace.Goals as goal
 
 pub returns-in-Ok-clause-ends : goal.returns-in-Ok-clause-ends
@@ -12,12 +12,21 @@ returns-in-Ok-clause-ends g c =
 
 pub returns-in-Ok-clause-untouched : goal.returns-in-Ok-clause-untouched
 returns-in-Ok-clause-untouched g c = λ r refused.
-    let made = c.in-Ok.ensures in absurd (c.one_run.ensures.apart c.args.text.now made.spec r made.run refused)
+    let back = c.in-Ok.ensures in absurd (c.one_run.ensures.apart c.args.text.now back.spec r back.run refused)
 
 pub returns-in-Err-Refused-clause-ends : goal.returns-in-Err-Refused-clause-ends
 returns-in-Err-Refused-clause-ends g c =
-    let made : Makes c.args.text.now (Err (engine.Refused c.in-Err-Refused.refusal)) =
+    let back : ReadsBack c.args.text.now (Err (engine.Refused c.in-Err-Refused.refusal)) =
     rw c.in-Err-Refused.field-0-is at c.in-Err-Refused.ensures in
     rw c.in-Err-Refused.field-0-is (text_refused c.args.text.now c.args.name.now c.in-Err-Refused.refusal
     (g.S.Shelf.state c.args.shelf.now)
-    (g.K.Sink.state c.args.sink.now) made)
+    (g.K.Sink.state c.args.sink.now) back)
+
+pub returns-in-Err-Refused-clause-few : goal.returns-in-Err-Refused-clause-few
+returns-in-Err-Refused-clause-few g c = λ files told. few _ _
+
+pub returns-in-Err-Memory-clause-ends : goal.returns-in-Err-Memory-clause-ends
+returns-in-Err-Memory-clause-ends g c = (refl, λ files told. little _ _)
+
+pub returns-in-Err-Memory-clause-few : goal.returns-in-Err-Memory-clause-few
+returns-in-Err-Memory-clause-few g c = λ files told. few _ _

@@ -1,7 +1,0 @@
-use Rattle.std.specs.Prelude.{false, slice_index_or}
-use Rattle.net_core.specs.Circuits.{output_gate}
-use Rattle.pbs_engine.proofs.RowLemmas.{HasBits}
-use Rattle.pbs_engine.proofs.rows.outputs_on.Given as goal
-
-abbrev pub invariant-loop-n : goal.invariant-loop-n
-invariant-loop-n l = HasBits l.on (λ k. slice_index_or l.sim.gates (output_gate l.sim.net k) false) l.n

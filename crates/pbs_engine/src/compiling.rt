@@ -1,0 +1,54 @@
+// Writes the Verilog of a specification.
+ghost use Rattle.std.specs.Prelude.{◌≡◌};
+ghost use Rattle.pbs_engine.specs.Right.{Compiles, IsVerilogOf, ReadsBack};
+
+use crate::controller::make;
+use crate::fail::EngineFail;
+use net_core::Netlist;
+use pbs_emit::emitted_stands;
+use std::alloc::Global;
+use vlog_read::{VlogFail, one_answer, read_netlist};
+use vlog_write::write_netlist;
+
+/// Appends the Verilog of the specification: docs/VERILOG.md. `Refused` comes by the rules of `check`, or by rule 17
+/// where the specification has a scope or a level. After a failure `out` is as it was.
+pub fn compile(alloc: Global, text: &[u8], out: &mut Vec<u8>) -> Result<(), EngineFail>
+    ensures { Compiles text.now out.old.items out.new.items result }
+{
+    emitted_stands();
+    let net = match make(alloc, text) {
+        Ok(net) => net,
+        Err(fail) => return Err(fail),
+    };
+    let _ = net.gates();
+    match write_netlist(alloc, &net, out) {
+        Ok(()) => Ok(()),
+        Err(_) => Err(EngineFail::Memory),
+    }
+}
+
+/// The netlist that the Verilog of the specification stands for.
+pub(crate) fn read_back(alloc: Global, text: &[u8]) -> Result<Netlist, EngineFail>
+    ensures { ReadsBack text.now result }
+{
+    let mut verilog = Vec::new(alloc);
+    match compile(alloc, text, &mut verilog) {
+        Ok(()) => {}
+        Err(fail) => return Err(fail),
+    }
+    reread(alloc, text, verilog.as_slice())
+}
+
+// The netlist of Verilog that was written.
+fn reread(alloc: Global, text: &[u8], verilog: &[u8]) -> Result<Netlist, EngineFail>
+    requires { IsVerilogOf text.now verilog.now }
+    ensures { ReadsBack text.now result }
+{
+    one_answer();
+    let _ = text;
+    match read_netlist(alloc, verilog) {
+        Ok(net) => Ok(net),
+        Err(VlogFail::Refused(_)) => unreachable!(),
+        Err(VlogFail::Memory) => Err(EngineFail::Memory),
+    }
+}
