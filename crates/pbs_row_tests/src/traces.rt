@@ -33,7 +33,7 @@ fn handshake(rt: HostRuntime) -> Result<(), Fail> {
 
 #[test]
 fn reports(rt: HostRuntime) -> Result<(), Fail> {
-    let cases: [(&[u8], &[u8], &[u8]); 9] = [
+    let cases: [(&[u8], &[u8], &[u8]); 11] = [
         (
             b"spec 1; input a; action x, y; main = {x}, [a], {y};",
             b"trace i_a\n1\n",
@@ -79,6 +79,16 @@ fn reports(rt: HostRuntime) -> Result<(), Fail> {
             b"trace\n\n\n",
             b"0 -\n1 -\n2 -\nend 2\n",
         ),
+        (
+            b"spec 1; input a, b; action x; main = [a], {x};",
+            b"trace i_b i_a\n01\n",
+            b"0 -\n1 a_x\nend 1\n",
+        ),
+        (
+            b"spec 1; input a; main = [a];",
+            b"trace i_a\n1",
+            b"0 -\n1 -\nend 1\n",
+        ),
     ];
     for (spec, rows, report) in cases {
         assert!(rt; trace(&rt, spec, rows, 0, report)?);
@@ -88,7 +98,7 @@ fn reports(rt: HostRuntime) -> Result<(), Fail> {
 
 #[test]
 fn refuses(rt: HostRuntime) -> Result<(), Fail> {
-    let cases: [(&[u8], &[u8], &[u8]); 6] = [
+    let cases: [(&[u8], &[u8], &[u8]); 4] = [
         (RESTART, b"", b"spec refused rule 17 at 63..153\n"),
         (
             b"spec 1; input a; action start, done; level busy = 0 { start: 1; done: 0; } main = [a], {start}, {done}, [a], {start};",
@@ -104,16 +114,6 @@ fn refuses(rt: HostRuntime) -> Result<(), Fail> {
             b"spec 1; main = ()",
             b"",
             b"spec refused rule 3 at 17..17\n",
-        ),
-        (
-            b"spec 1; input a, b; main = [a], [b];",
-            b"trace i_b i_a\n10\n",
-            b"trace refused rule 17 at 0..17\n",
-        ),
-        (
-            b"spec 1; input a; main = [a];",
-            b"trace i_a\n1",
-            b"trace refused rule 17 at 0..11\n",
         ),
     ];
     for (spec, rows, line) in cases {

@@ -61,23 +61,42 @@ fn reports(rt: HostRuntime) -> Result<(), Fail> {
 }
 
 #[test]
-fn refuses_traces(rt: HostRuntime) -> Result<(), Fail> {
-    let cases: [(&[u8], &[u8]); 9] = [
-        (b"trace i_b i_a\n10\n", b"trace refused rule 17 at 0..17\n"),
-        (b"trace i_a i_b\n10", b"trace refused rule 17 at 0..16\n"),
-        (b"trace i_a i_b\n12\n", b"trace refused rule 17 at 0..17\n"),
-        (b"trace i_a i_b\n1\n", b"trace refused rule 17 at 0..16\n"),
-        (b"trace i_a i_b\n101\n", b"trace refused rule 17 at 0..18\n"),
-        (b"trace i_a\n1\n", b"trace refused rule 17 at 0..12\n"),
-        (b"trace  i_a i_b\n10\n", b"trace refused rule 17 at 0..18\n"),
-        (b"trace i_a i_b", b"trace refused rule 17 at 0..13\n"),
-        (b"", b"trace refused rule 17 at 0..0\n"),
+fn reads_traces(rt: HostRuntime) -> Result<(), Fail> {
+    let cases: [(&[u8], u8, &[u8]); 9] = [
+        (b"trace i_b i_a\n01\n00\n", 0, b"0 -\n1 -\n2 a_x\nend 2\n"),
+        (b"trace i_a i_b\n10", 0, b"0 -\n1 -\nend 1\n"),
+        (
+            b"trace i_a i_b\n12\n",
+            1,
+            b"0 -\ntrace refused rule 3 at 15..16\n",
+        ),
+        (
+            b"trace i_a i_b\n1\n",
+            1,
+            b"0 -\ntrace refused rule 3 at 15..16\n",
+        ),
+        (
+            b"trace i_a i_b\n101\n",
+            1,
+            b"0 -\ntrace refused rule 3 at 16..17\n",
+        ),
+        (b"trace i_a\n1\n", 1, b"trace refused rule 2 at 9..9\n"),
+        (
+            b"trace  i_a i_b\n10\n",
+            1,
+            b"trace refused rule 2 at 0..14\n",
+        ),
+        (b"trace i_a i_b", 0, b"0 -\nend 0\n"),
+        (b"", 1, b"trace refused rule 2 at 0..0\n"),
     ];
-    for (trace, text) in cases {
+    for (trace, status, text) in cases {
         let words = words(rt.alloc(), &["trace", "s", "t"])?;
         let mut shelf = shelf(&rt, 7, PAIR, trace)?;
         let mut out = sink(&rt, 200, 200)?;
-        assert_eq!(rt; run(rt.alloc(), words.as_slice(), &mut shelf, &mut out), 1);
+        assert_eq!(rt;
+            run(rt.alloc(), words.as_slice(), &mut shelf, &mut out),
+            status
+        );
         assert_eq!(rt; out.bytes(), text);
     }
     Ok(())

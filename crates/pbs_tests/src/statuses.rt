@@ -50,14 +50,17 @@ fn absent_files(rt: HostRuntime) -> Result<(), Fail> {
 // The 51 bytes of the specification come in six reads of 10 bytes and one of none, the 12 of the trace in two and one.
 #[test]
 fn each_call_of_the_shelf_fails(rt: HostRuntime) -> Result<(), Fail> {
-    for call in 0..12u64 {
+    let report: &[u8] = b"0 a_x\n1 a_y\n";
+    let written = [0, 0, 0, 0, 0, 0, 0, 0, 0, 0, 6, 12usize];
+    for (call, count) in written.iter().enumerate() {
         let words = words(rt.alloc(), &["trace", "s", "t"])?;
         let mut shelf = shelf(&rt, 10, SEQUENCE, ONE)?;
-        shelf.fail_at(call).ok().ok_or("memory")?;
+        shelf.fail_at(call as u64).ok().ok_or("memory")?;
         let mut out = sink(&rt, 100, 100)?;
         let status = run(rt.alloc(), words.as_slice(), &mut shelf, &mut out);
         assert_eq!(rt; status, 3, "at {call}");
-        assert_eq!(rt; out.bytes().len(), 0);
+        assert_eq!(rt; out.bytes().len(), *count);
+        assert!(rt; report.starts_with(out.bytes()));
     }
     let words = words(rt.alloc(), &["trace", "s", "t"])?;
     let mut shelf = shelf(&rt, 10, SEQUENCE, ONE)?;

@@ -1,0 +1,183 @@
+// What a reader answers to a text in pieces.
+ghost use Rattle.std.specs.Prelude.{◌≡◌, ◌≤◌, length, IfOk};
+ghost use Rattle.trace_reader.specs.States.{head_phase, row_phase};
+ghost use Rattle.trace_reader.specs.declared.answers.Phase.TheVariants.{Header, Rows};
+
+use pbs_base::{Names, Refusal};
+use std::alloc::Global;
+use std::test::Fail;
+use trace_reader::{Head, Row, TraceReader};
+
+/// What is to be found in a text: its rows with its end, or why its header is refused.
+#[derive(Clone, Copy)]
+pub(crate) enum Wanted<'w> {
+    Rows(&'w [Row]),
+    NoHeader(Refusal),
+}
+
+/// Reads the header, and answers how much of its last piece is left, and the pieces behind that. The last of the pieces
+/// ends the text.
+pub(crate) fn read_head<'p>(
+    reader: &mut TraceReader,
+    pieces: &'p [&'p [u8]],
+) -> Result<(Head, &'p [u8], &'p [&'p [u8]]), Fail>
+    requires { reader.old.phase ≡ Header }
+    ensures { IfOk result (λ found. reader.new.phase ≡ head_phase found.0) }
+{
+    let [piece, behind @ ..] = pieces else {
+        return Ok((Head::More, b"", pieces));
+    };
+    let Ok((used, head)) = reader.header(*piece, behind.is_empty()) else {
+        return Err("memory".into());
+    };
+    match head {
+        Head::More => read_head(reader, behind),
+        _ => Ok((head, &piece[used..], behind)),
+    }
+}
+
+// Reads a row that begins with this piece.
+fn read_row<'p>(
+    reader: &mut TraceReader,
+    piece: &'p [u8],
+    behind: &'p [&'p [u8]],
+) -> (Row, &'p [u8], &'p [&'p [u8]])
+    requires { reader.old.phase ≡ Rows }
+    ensures { reader.new.phase ≡ row_phase result.0 }
+{
+    let (used, row) = reader.next_row(piece, behind.is_empty());
+    match row {
+        Row::More => {
+            let [next, others @ ..] = behind else {
+                return (row, b"", behind);
+            };
+            read_row(reader, *next, others)
+        }
+        _ => (row, &piece[used..], behind),
+    }
+}
+
+// Whether these are the rows of the rest.
+fn has_rows(reader: &mut TraceReader, piece: &[u8], behind: &[&[u8]], wanted: &[Row]) -> bool
+    requires { reader.old.phase ≡ Rows }
+{
+    let (row, rest, others) = read_row(reader, piece, behind);
+    let [first, more @ ..] = wanted else {
+        return false;
+    };
+    if row != *first {
+        return false;
+    }
+    match row {
+        Row::Vector(_) | Row::Reset => has_rows(reader, rest, others, more),
+        Row::End | Row::Refused(_) => more.is_empty(),
+        Row::More => false,
+    }
+}
+
+/// Whether this is found in the text of the pieces.
+pub(crate) fn finds(
+    alloc: Global,
+    ports: &Names,
+    pieces: &[&[u8]],
+    wanted: Wanted,
+) -> Result<bool, Fail>
+    requires { length ports.now ≤ 64 }
+{
+    let Ok(mut reader) = TraceReader::new(alloc, ports) else {
+        return Err("memory".into());
+    };
+    let (head, rest, behind) = read_head(&mut reader, pieces)?;
+    match head {
+        Head::Ready => match wanted {
+            Wanted::Rows(rows) => Ok(has_rows(&mut reader, rest, behind, rows)),
+            Wanted::NoHeader(_) => Ok(false),
+        },
+        Head::Refused(found) => match wanted {
+            Wanted::Rows(_) => Ok(false),
+            Wanted::NoHeader(refusal) => Ok(found == refusal),
+        },
+        Head::More => Ok(false),
+    }
+}
+
+// The text in one piece, and with an empty one behind or before it.
+fn finds_whole(alloc: Global, ports: &Names, text: &[u8], wanted: Wanted) -> Result<bool, Fail>
+    requires { length ports.now ≤ 64 }
+{
+    if !finds(alloc, ports, &[text], wanted)? {
+        return Ok(false);
+    }
+    if !finds(alloc, ports, &[text, b""], wanted)? {
+        return Ok(false);
+    }
+    finds(alloc, ports, &[b"", text, b"", b""], wanted)
+}
+
+// The text in each two pieces.
+fn finds_in_two(alloc: Global, ports: &Names, text: &[u8], wanted: Wanted) -> Result<bool, Fail>
+    requires { length ports.now ≤ 64 }
+{
+    for n in 0..text.len() {
+        let (front, back) = text.split_at(n);
+        if !finds(alloc, ports, &[front, back], wanted)? {
+            return Ok(false);
+        }
+        if !finds(alloc, ports, &[front, back, b""], wanted)? {
+            return Ok(false);
+        }
+    }
+    Ok(true)
+}
+
+// The text in each three pieces, of which this is the first.
+fn finds_behind(
+    alloc: Global,
+    ports: &Names,
+    front: &[u8],
+    text: &[u8],
+    wanted: Wanted,
+) -> Result<bool, Fail>
+    requires { length ports.now ≤ 64 }
+{
+    for n in 0..text.len() {
+        let (middle, back) = text.split_at(n);
+        if !finds(alloc, ports, &[front, middle, back], wanted)? {
+            return Ok(false);
+        }
+        if !finds(alloc, ports, &[front, middle, back, b""], wanted)? {
+            return Ok(false);
+        }
+    }
+    Ok(true)
+}
+
+fn finds_in_three(alloc: Global, ports: &Names, text: &[u8], wanted: Wanted) -> Result<bool, Fail>
+    requires { length ports.now ≤ 64 }
+{
+    for n in 0..text.len() {
+        let (front, back) = text.split_at(n);
+        if !finds_behind(alloc, ports, front, back, wanted)? {
+            return Ok(false);
+        }
+    }
+    Ok(true)
+}
+
+/// Whether this is found in the text, in whatever one, two or three pieces it comes.
+pub(crate) fn finds_each_way(
+    alloc: Global,
+    ports: &Names,
+    text: &[u8],
+    wanted: Wanted,
+) -> Result<bool, Fail>
+    requires { length ports.now ≤ 64 }
+{
+    if !finds_whole(alloc, ports, text, wanted)? {
+        return Ok(false);
+    }
+    if !finds_in_two(alloc, ports, text, wanted)? {
+        return Ok(false);
+    }
+    finds_in_three(alloc, ports, text, wanted)
+}
