@@ -58,7 +58,12 @@ fn read_row<'p>(
 }
 
 // Whether these are the rows of the rest.
-fn has_rows(reader: &mut TraceReader, piece: &[u8], behind: &[&[u8]], wanted: &[Row]) -> bool
+fn has_rows<'p>(
+    reader: &mut TraceReader,
+    piece: &'p [u8],
+    behind: &'p [&'p [u8]],
+    wanted: &[Row],
+) -> bool
     requires { reader.old.phase ≡ Rows }
 {
     let (row, rest, others) = read_row(reader, piece, behind);
@@ -69,7 +74,8 @@ fn has_rows(reader: &mut TraceReader, piece: &[u8], behind: &[&[u8]], wanted: &[
         return false;
     }
     match row {
-        Row::Vector(_) | Row::Reset => has_rows(reader, rest, others, more),
+        Row::Vector(_) => has_rows(reader, rest, others, more),
+        Row::Reset => has_rows(reader, rest, others, more),
         Row::End | Row::Refused(_) => more.is_empty(),
         Row::More => false,
     }
