@@ -5,7 +5,7 @@ use Rattle.std.proofs.Common.{append_assoc}
 use Rattle.std.proofs.lemmas.Bool.Decides.{nat_tests}
 use Rattle.pbs_base.specs.declared.refusal.Refusal.{Refusal}
 use Rattle.pbs_base.specs.declared.entry.Entry.{Entry}
-use Rattle.trace_text.specs.Reports.{Ending, End, Refused}
+use Rattle.trace_reader.specs.Traces.{Ending, End, Refused}
 use Rattle.trace_reader.specs.Traces.{Found, Good, Wrong, Rows, bare, digits, entry, followed, is_digit, is_good, is_too_long}
 use Rattle.trace_reader.specs.Traces.{lines, refused, right, row, rows, wanted, wrong_row}
 use Rattle.trace_reader.specs.States.{IsInRow, ReaderState, has_newline, rows_from}

@@ -9,7 +9,8 @@ use Rattle.pbs_base.proofs.WrittenLemmas.{append_known-nil}
 use Rattle.net_core.specs.Rows.{Row}
 use Rattle.net_core.specs.Circuits.{Circuit}
 use Rattle.net_eval.specs.Simulated.{IsZeroRun}
-use Rattle.trace_text.specs.Reports.{Ending, End, Refused, last_line}
+use Rattle.trace_text.specs.Reports.{end_line}
+use Rattle.trace_reader.specs.Traces.{Ending, End, Refused}
 use Rattle.trace_reader.specs.Traces.{Rows}
 use Rattle.trace_reader.specs.Headers.{NoHeader, Traced, trace}
 use Rattle.trace_reader.specs.States.{IsInRow, ReaderState}
@@ -31,7 +32,7 @@ read_of entries ending = record { entries = entries; ending = ending }
 
 pub whole_report : (net : Circuit) (before now : SinkState) (text : List ℕ) (entries : List Entry) → Runs net
     → trace net.inputs text ≡ Traced (read_of entries End)
-    → ShownWhole net before entries (last_line (length entries) End) now
+    → ShownWhole net before entries (end_line (length entries)) now
     → WroteLines (NetGives net text) None before now
 whole_report net before now text entries runs traced shown =
     let run = runs entries in
@@ -66,7 +67,7 @@ no_header net sink text r none = record {
 -- ---- fronts of outcomes
 
 tail_of : (lines : List ℕ) (count : ℕ) (ending : Ending) → (tail : List ℕ) × (lines ++ tail ≡ (ended lines count ending).lines)
-tail_of lines count End = (last_line count End, refl)
+tail_of lines count End = (end_line count, refl)
 tail_of lines count (Refused r) = ([], append-nil lines)
 
 -- the outcome of a trace that begins with these entries, whose lines begin with theirs
@@ -120,12 +121,12 @@ cut_report net before now text entries more runs traced shown =
 
 pub cut_at_end : (net : Circuit) (before now : SinkState) (text : List ℕ) (entries : List Entry) → Runs net
     → trace net.inputs text ≡ Traced (read_of entries End)
-    → ShownInPart net before entries (last_line (length entries) End) now
+    → ShownInPart net before entries (end_line (length entries)) now
     → WroteFront (NetGives net text) before now
 cut_at_end net before now text entries runs traced shown =
     let run = runs entries in
     front_of net before now text (ended (shown_rows net run.0 (length entries)) (length entries) End)
-    (shown_rows net run.0 (length entries) ++ last_line (length entries) End) []
+    (shown_rows net run.0 (length entries) ++ end_line (length entries)) []
     (OnRows (read_of entries End) traced run.0 run.1) (append-nil _) (shown.front run.0 run.1)
 
 pub all_shown : (net : Circuit) (before now : SinkState) (text : List ℕ) (entries : List Entry) (more : Rows)

@@ -7,12 +7,12 @@ use Rattle.pbs_base.specs.declared.entry.Entry.{Entry}
 use Rattle.pbs_base.specs.declared.entry.Entry.TheVariants.{Reset}
 use Rattle.net_core.specs.declared.netlist.Output.{Output}
 use Rattle.net_core.specs.Rows.{Row}
-use Rattle.net_core.specs.Circuits.{Circuit, IsCircuit, output_gate}
+use Rattle.net_core.specs.Circuits.{Circuit, IsCircuit, output_gate, output_names}
 use Rattle.net_core.specs.Runs.{output_value}
 use Rattle.net_eval.specs.States.{State}
 use Rattle.net_eval.specs.Simulated.{IsZeroRun, StandsAfter}
 use Rattle.trace_text.specs.Reports.{row_line, rows_text}
-use Rattle.net_trace.specs.Outcomes.{output_names, shown_rows}
+use Rattle.net_trace.specs.Outcomes.{shown_rows}
 
 -- ---- a run and its front
 

@@ -7,16 +7,16 @@ use Rattle.pbs_base.specs.Outside.{SinkState, Writes, WritesFront}
 use Rattle.pbs_base.specs.declared.entry.Entry.{Entry}
 use Rattle.pbs_base.proofs.WrittenLemmas.{append_known-nil}
 use Rattle.net_core.specs.Rows.{Row}
-use Rattle.net_core.specs.Circuits.{Circuit, IsCircuit, output_gate}
+use Rattle.net_core.specs.Circuits.{Circuit, IsCircuit, output_gate, output_names}
 use Rattle.net_core.specs.Runs.{output_value}
 use Rattle.net_eval.specs.States.{State}
 use Rattle.net_eval.specs.Simulated.{IsZeroRun, StandsAfter}
 use Rattle.trace_text.specs.Held.{Holds, PassesOn}
 use Rattle.trace_text.specs.HeldBytes.{held_bytes}
-use Rattle.trace_text.specs.Reports.{End, is_on, last_line, row_line}
+use Rattle.trace_text.specs.Reports.{is_on, end_line, row_line}
 use Rattle.trace_text.proofs.HeldLemmas.{HeldUpTo, piece_held, piece_unheld, all_flushed}
 use Rattle.trace_text.proofs.RowLemmas.{row_line-same}
-use Rattle.net_trace.specs.Outcomes.{output_names, shown_rows}
+use Rattle.net_trace.specs.Outcomes.{shown_rows}
 use Rattle.net_trace.specs.Steps.{IsNew, Shown, ShownInPart, ShownWhole, ShowsLine}
 use Rattle.net_trace.specs.declared.report.Report.{Report}
 use Rattle.net_trace.proofs.RunLemmas.{front_run, length_more, line_last, names_long, output_shown}
@@ -244,21 +244,21 @@ flushed_shown net before a b entries old new (Ok x) shown put sim rows_same empt
 
 with_end : {E : Type 0} (net : Circuit) (before a b : SinkState) (entries : List Entry) (old : Report)
     (held : List ℕ) (rows : ℕ → Row) (x : Unit {0}) → Shown net before entries old a → IsZeroRun net entries rows
-    → Holds {E = E} a b (held_bytes old.held) held (last_line old.rows End) (Ok x)
-    → HeldUpTo before b (shown_rows net rows (length entries) ++ last_line (length entries) End) [] held
+    → Holds {E = E} a b (held_bytes old.held) held (end_line old.rows) (Ok x)
+    → HeldUpTo before b (shown_rows net rows (length entries) ++ end_line (length entries)) [] held
 with_end {E} net before a b entries old held rows x shown run put =
-    let line = last_line (length entries) End in
+    let line = end_line (length entries) in
     piece_held before a b (shown_rows net rows (length entries) ++ line) line [] (held_bytes old.held) held x
     (subst (λ l. HeldUpTo before a (shown_rows net rows (length entries) ++ line) l (held_bytes old.held))
     (sym (append-nil line)) (all_held net before a entries old rows line shown run))
-    (subst (λ n. Holds {E = E} a b (held_bytes old.held) held (last_line n End) (Ok x)) shown.count put)
+    (subst (λ n. Holds {E = E} a b (held_bytes old.held) held (end_line n) (Ok x)) shown.count put)
 
 pub end_cut : {T E : Type 0} (net : Circuit) (before a b : SinkState) (entries : List Entry) (old : Report)
     (held : List ℕ) (e : E) → Shown net before entries old a
-    → Holds {T = T} a b (held_bytes old.held) held (last_line old.rows End) (Err e)
-    → ShownInPart net before entries (last_line (length entries) End) b
+    → Holds {T = T} a b (held_bytes old.held) held (end_line old.rows) (Err e)
+    → ShownInPart net before entries (end_line (length entries)) b
 end_cut {T} {E} net before a b entries old held e shown put =
-    let line = last_line (length entries) End in
+    let line = end_line (length entries) in
     let cut : (rows : ℕ → Row) → IsZeroRun net entries rows
     → Writes {T = T} {E = E} before b (shown_rows net rows (length entries) ++ line) (Err e) =
     λ rows run.
@@ -266,7 +266,7 @@ end_cut {T} {E} net before a b entries old held e shown put =
     (held_bytes old.held) held e e
     (subst (λ l. HeldUpTo before a (shown_rows net rows (length entries) ++ line) l (held_bytes old.held))
     (sym (append-nil line)) (all_held net before a entries old rows line shown run))
-    (subst (λ n. Holds {T = T} a b (held_bytes old.held) held (last_line n End) (Err e)) shown.count put) in
+    (subst (λ n. Holds {T = T} a b (held_bytes old.held) held (end_line n) (Err e)) shown.count put) in
     record {
       rose = let run = shown.runs entries in (cut run.0 run.1).cause;
       later = let run = shown.runs entries in (cut run.0 run.1).later;
@@ -275,11 +275,11 @@ end_cut {T} {E} net before a b entries old held e shown put =
 
 pub ended_whole : {T E F : Type 0} (net : Circuit) (before a b c : SinkState) (entries : List Entry) (old : Report)
     (held : List ℕ) (x : Unit {0}) (result : Result T F) → Shown net before entries old a
-    → Holds {E = E} a b (held_bytes old.held) held (last_line old.rows End) (Ok x) → Writes b c held result
-    → OnOk result (ShownWhole net before entries (last_line (length entries) End) c)
+    → Holds {E = E} a b (held_bytes old.held) held (end_line old.rows) (Ok x) → Writes b c held result
+    → OnOk result (ShownWhole net before entries (end_line (length entries)) c)
 ended_whole net before a b c entries old held x (Err f) shown put flushed = tt
 ended_whole {T} {E} {F} net before a b c entries old held x (Ok y) shown put flushed =
-    let line = last_line (length entries) End in
+    let line = end_line (length entries) in
     let done : (rows : ℕ → Row) → IsZeroRun net entries rows
     → Writes {T = T} {E = F} before c (shown_rows net rows (length entries) ++ line) (Ok y) = λ rows run.
     all_flushed before b c (shown_rows net rows (length entries) ++ line) held x (Ok y)
@@ -291,11 +291,11 @@ ended_whole {T} {E} {F} net before a b c entries old held x (Ok y) shown put flu
 
 pub ended_cut : {T E F : Type 0} (net : Circuit) (before a b c : SinkState) (entries : List Entry) (old : Report)
     (held : List ℕ) (x : Unit {0}) (result : Result T F) → Shown net before entries old a
-    → Holds {E = E} a b (held_bytes old.held) held (last_line old.rows End) (Ok x) → Writes b c held result
-    → OnErr result (ShownInPart net before entries (last_line (length entries) End) c)
+    → Holds {E = E} a b (held_bytes old.held) held (end_line old.rows) (Ok x) → Writes b c held result
+    → OnErr result (ShownInPart net before entries (end_line (length entries)) c)
 ended_cut net before a b c entries old held x (Ok y) shown put flushed = tt
 ended_cut {T} {E} {F} net before a b c entries old held x (Err f) shown put flushed =
-    let line = last_line (length entries) End in
+    let line = end_line (length entries) in
     let cut : (rows : ℕ → Row) → IsZeroRun net entries rows
     → Writes {T = T} {E = F} before c (shown_rows net rows (length entries) ++ line) (Err f) = λ rows run.
     all_flushed before b c (shown_rows net rows (length entries) ++ line) held x (Err f)

@@ -9,7 +9,7 @@ use Rattle.std.proofs.Math.Seq.{drop-nil}
 use Rattle.pbs_base.specs.declared.entry.Entry.{Entry}
 use Rattle.pbs_base.specs.declared.entry.Entry.TheVariants.{Vector, Reset}
 use Rattle.pbs_base.specs.declared.refusal.Refusal.{Refusal}
-use Rattle.trace_text.specs.Reports.{Ending, End, Refused}
+use Rattle.trace_reader.specs.Traces.{Ending, End, Refused}
 use Rattle.trace_reader.specs.Traces.{Found, Good, Wrong, Rows, first_line, followed, lines, no_rows, row, rows}
 use Rattle.trace_reader.specs.Headers.{Trace, NoHeader, Traced, trace}
 use Rattle.trace_reader.specs.States.{ReaderState, ReadsRow, has_newline, rows_from}

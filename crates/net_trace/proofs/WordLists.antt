@@ -5,8 +5,7 @@ use Rattle.pbs_base.specs.declared.fail.Memory.{Memory}
 use Rattle.std.proofs.lemmas.Option.{same_Some}
 use Rattle.pbs_base.specs.Words.{AreDifferent}
 use Rattle.net_core.specs.declared.netlist.Output.{Output}
-use Rattle.net_core.specs.Circuits.{Circuit, IsCircuit}
-use Rattle.net_trace.specs.Outcomes.{output_names}
+use Rattle.net_core.specs.Circuits.{Circuit, IsCircuit, output_names}
 
 -- the output whose name stands there
 named : (outputs : List Output) (n : ℕ) (word : List ℕ) → slice_get (map (λ (o : Output). o.name) outputs) n ≡ Some word

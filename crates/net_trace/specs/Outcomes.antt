@@ -6,7 +6,8 @@ use Rattle.net_core.specs.Rows.{Row}
 use Rattle.net_core.specs.Circuits.{Circuit}
 use Rattle.net_core.specs.Runs.{output_value}
 use Rattle.net_eval.specs.Simulated.{IsZeroRun}
-use Rattle.trace_text.specs.Reports.{Ending, End, Refused, last_line, rows_text}
+use Rattle.trace_text.specs.Reports.{end_line, rows_text}
+use Rattle.trace_reader.specs.Traces.{Ending, End, Refused}
 use Rattle.trace_reader.specs.Traces.{Rows}
 use Rattle.trace_reader.specs.Headers.{NoHeader, Traced, trace}
 
@@ -20,11 +21,8 @@ refused r = record { lines = []; refusal = Some r }
 
 -- these lines, and behind them the number of entries where the trace ends there
 abbrev pub ended : List ℕ → ℕ → Ending → Outcome
-ended lines count End = record { lines = lines ++ last_line count End; refusal = None }
+ended lines count End = record { lines = lines ++ end_line count; refusal = None }
 ended lines count (Refused r) = record { lines = lines; refusal = Some r }
-
-abbrev pub output_names : Circuit → List (List ℕ)
-output_names net = map (λ (o : Output). o.name) net.outputs
 
 -- the line of row 0 and one for each of so many entries
 abbrev pub shown_rows : Circuit → (ℕ → Row) → ℕ → List ℕ

@@ -6,12 +6,12 @@ use Rattle.pbs_base.specs.Outside.{ShelfState, SinkState, Rose, WritesFront}
 use Rattle.pbs_base.specs.declared.entry.Entry.{Entry}
 use Rattle.pbs_base.specs.declared.refusal.Refusal.{Refusal}
 use Rattle.net_core.specs.Rows.{Row}
-use Rattle.net_core.specs.Circuits.{Circuit, IsCircuit, output_gate}
+use Rattle.net_core.specs.Circuits.{Circuit, IsCircuit, output_gate, output_names}
 use Rattle.net_eval.specs.Simulated.{IsZeroRun, StandsAfter}
 use Rattle.net_eval.specs.States.{IsFresh}
 use Rattle.trace_text.specs.Held.{Holds, PassesOn}
 use Rattle.trace_text.specs.HeldBytes.{held_bytes}
-use Rattle.trace_text.specs.Reports.{End, last_line, row_line}
+use Rattle.trace_text.specs.Reports.{end_line, row_line}
 use Rattle.trace_reader.specs.Traces.{Rows, lines, rows}
 use Rattle.trace_reader.specs.Headers.{Traced, NoHeader, trace}
 use Rattle.trace_reader.specs.States.{ReaderState, has_newline, rows_from}
@@ -26,7 +26,7 @@ use Rattle.net_trace.specs.declared.header.Headed.TheVariants as headed
 use Rattle.net_trace.specs.declared.rows.Progress.{Progress}
 use Rattle.net_trace.specs.declared.rows.Progress.TheVariants as progress
 use Rattle.net_trace.specs.declared.report.Report.{Report}
-use Rattle.net_trace.specs.Outcomes.{NetGives, output_names, shown_rows}
+use Rattle.net_trace.specs.Outcomes.{NetGives, shown_rows}
 use Rattle.net_trace.specs.Taken.{Stops, NetRows}
 use Rattle.net_trace.specs.Endings.{WroteLines, WroteFront}
 
@@ -174,8 +174,8 @@ pub record FinishesLater (net : Circuit) (before : SinkState) (text : List ℕ) 
 
 -- where the last line was to be written
 abbrev pub Ends : Circuit → SinkState → List Entry → SinkState → Result (Unit {0}) RunFail → Type 0
-Ends net before entries now (Ok done) = ShownWhole net before entries (last_line (length entries) End) now
-Ends net before entries now (Err fails.WriteFault) = ShownInPart net before entries (last_line (length entries) End) now
+Ends net before entries now (Ok done) = ShownWhole net before entries (end_line (length entries)) now
+Ends net before entries now (Err fails.WriteFault) = ShownInPart net before entries (end_line (length entries)) now
 Ends net before entries now result = ⊥
 
 -- a piece was used up, behind which the run goes on, or a row was refused or writing failed, whatever follows

@@ -6,7 +6,7 @@ use Rattle.pbs_base.specs.declared.refusal.Refusal.{Refusal}
 use Rattle.net_core.specs.Rows.{Row}
 use Rattle.net_core.specs.Circuits.{Circuit}
 use Rattle.net_eval.specs.Simulated.{IsZeroRun}
-use Rattle.trace_text.specs.Reports.{End, Refused}
+use Rattle.trace_reader.specs.Traces.{End, Refused}
 use Rattle.trace_reader.specs.Traces.{Rows}
 use Rattle.trace_reader.specs.Headers.{Traced, trace}
 use Rattle.trace_reader.specs.States.{has_newline}

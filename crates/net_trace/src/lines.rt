@@ -6,7 +6,7 @@ ghost use Rattle.pbs_base.specs.declared.entry.Entry.{Entry as EntryValue};
 ghost use Rattle.net_core.specs.Circuits.{Circuit, output_gate};
 ghost use Rattle.net_eval.specs.States.{Steps};
 ghost use Rattle.net_eval.specs.Simulated.{inputs_of, is_reset};
-ghost use Rattle.trace_text.specs.Reports.{End, is_on, last_line};
+ghost use Rattle.trace_text.specs.Reports.{is_on, end_line};
 ghost use Rattle.net_trace.specs.Steps.{IsNew, Shown, ShownInPart, ShownWhole, ShowsLine};
 
 use crate::names::port_names;
@@ -119,10 +119,10 @@ impl<'a> Report<'a> {
     pub(crate) fn end<K: Sink>(&mut self, sink: &mut K) -> Result<(), WriteFail>
         ensures ok { (net : Circuit) (before : SinkState) (entries : List EntryValue)
             → Shown net before entries self.old (K.state sink.old)
-            → OnOk result (ShownWhole net before entries (last_line (length entries) End) (K.state sink.new)) }
+            → OnOk result (ShownWhole net before entries (end_line (length entries)) (K.state sink.new)) }
         ensures err { (net : Circuit) (before : SinkState) (entries : List EntryValue)
             → Shown net before entries self.old (K.state sink.old)
-            → OnErr result (ShownInPart net before entries (last_line (length entries) End) (K.state sink.new)) }
+            → OnErr result (ShownInPart net before entries (end_line (length entries)) (K.state sink.new)) }
     {
         let Ok(()) = hold_end(&mut self.held, sink, self.rows) else {
             return Err(WriteFail::Fault);

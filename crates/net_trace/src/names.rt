@@ -1,26 +1,11 @@
 // The names of a netlist's outputs.
 ghost use Rattle.std.specs.Prelude.{◌≡◌, ◌≤◌, length, map, IfOk};
-ghost use Rattle.pbs_base.specs.Words.{AreDifferent};
-ghost use Rattle.net_core.specs.Circuits.{IsCircuit};
+ghost use Rattle.net_core.specs.Circuits.{IsCircuit, output_names};
 ghost use Rattle.net_core.specs.declared.netlist.Output.{Output};
-ghost use Rattle.net_trace.specs.Outcomes.{output_names};
 
 use net_core::{Netlist, Output};
 use pbs_base::{Memory, Names, Word};
 use std::alloc::Global;
-
-// The words as names.
-fn names_of(alloc: Global, words: &[Word]) -> Result<Names, Memory>
-    requires { AreDifferent words.now }
-    ensures { IfOk result (λ names. names ≡ words.now) }
-{
-    let mut names = Names::new(alloc);
-    for word in words {
-        let copy = Word::new(alloc, word.bytes())?;
-        names.add(copy)?;
-    }
-    Ok(names)
-}
 
 // The words of the outputs, in order.
 fn output_words(alloc: Global, outputs: &[Output]) -> Result<Vec<Word>, Memory>
@@ -41,5 +26,5 @@ pub(crate) fn port_names(alloc: Global, net: &Netlist) -> Result<Names, Memory>
 {
     let _ = net.gates();
     let words = output_words(alloc, net.outputs())?;
-    names_of(alloc, words.as_slice())
+    Names::from_words(alloc, words.as_slice())
 }

@@ -1,6 +1,6 @@
 // The report of a simulation so far.
 ghost use Rattle.std.specs.Prelude.{◌≡◌, ◌≤◌, length};
-ghost use Rattle.net_trace.specs.Outcomes.{output_names};
+ghost use Rattle.net_core.specs.Circuits.{output_names};
 
 use net_eval::Sim;
 use pbs_base::Names;

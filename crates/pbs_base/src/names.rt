@@ -33,6 +33,18 @@ impl Names {
         }
     }
 
+    /// The words as names, in their order.
+    pub fn from_words(alloc: Global, words: &[Word]) -> Result<Names, Memory>
+        requires { AreDifferent words.now }
+        ensures { IfOk result (λ names. names ≡ words.now) }
+    {
+        let mut names = Names::new(alloc);
+        for word in words {
+            names.add(Word::new(alloc, word.bytes())?)?;
+        }
+        Ok(names)
+    }
+
     pub fn len(&self) -> usize
         ensures count { result ≡ length self.now }
         ensures different { AreDifferent self.now }

@@ -10,7 +10,7 @@ use Rattle.pbs_base.specs.declared.entry.Entry.TheVariants.{Vector, Reset}
 use Rattle.net_core.specs.declared.gate.Wire.TheVariants.{Const}
 use Rattle.net_core.specs.declared.netlist.Output.{Output}
 use Rattle.net_core.specs.Rows.{Row}
-use Rattle.net_core.specs.Circuits.{Circuit, IsCircuit, wire_at}
+use Rattle.net_core.specs.Circuits.{Circuit, IsCircuit, wire_at, output_names}
 use Rattle.net_core.specs.Runs.{next_of, output_value}
 use Rattle.net_eval.specs.Assignments.{Agree, HasOneAssignment}
 use Rattle.net_eval.specs.Simulated.{IsZeroRun}
@@ -18,7 +18,7 @@ use Rattle.net_eval.proofs.Agreeing.{value_agree, some_at}
 use Rattle.trace_text.specs.Reports.{names_on, or_dash, row_line, rows_text}
 use Rattle.trace_reader.specs.Traces.{Rows}
 use Rattle.trace_reader.specs.Headers.{Trace, NoHeader, Traced}
-use Rattle.net_trace.specs.Outcomes.{Outcome, NetGives, OnHeader, OnRows, refused, ended, output_names, shown_rows}
+use Rattle.net_trace.specs.Outcomes.{Outcome, NetGives, OnHeader, OnRows, refused, ended, shown_rows}
 
 -- ---- two runs in which the registers before row 0, and the inputs in row 0 and in rows of resets, are 0
 

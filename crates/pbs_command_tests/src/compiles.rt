@@ -1,13 +1,13 @@
 // What `compile` answers.
-use crate::files::{HANDSHAKE, REPORT, REQUEST, answer, cut};
-use crate::verilog::VERILOG;
+use crate::files::{REPORT, REQUEST, answer, cut};
+use pbs_samples::{HANDSHAKE, HANDSHAKE_VERILOG};
 use std::test::Fail;
 
 #[test]
 fn writes_the_controller(rt: HostRuntime) -> Result<(), Fail> {
     let (status, out) = answer(&rt, &["compile", "s"], HANDSHAKE, b"")?;
     assert_eq!(rt; status, 0);
-    assert_eq!(rt; out.bytes(), VERILOG);
+    assert_eq!(rt; out.bytes(), HANDSHAKE_VERILOG);
     Ok(())
 }
 
@@ -74,10 +74,10 @@ fn cut_short(rt: HostRuntime) -> Result<(), Fail> {
         let (status, out) = cut(&rt, &["compile", "s"], HANDSHAKE, b"", call)?;
         assert_eq!(rt; status, 4, "at {call}");
         assert_eq!(rt; out.bytes().len() as u64, call);
-        assert!(rt; VERILOG.starts_with(out.bytes()));
+        assert!(rt; HANDSHAKE_VERILOG.starts_with(out.bytes()));
     }
     let (status, out) = cut(&rt, &["compile", "s"], HANDSHAKE, b"", 1691)?;
     assert_eq!(rt; status, 0);
-    assert_eq!(rt; out.bytes(), VERILOG);
+    assert_eq!(rt; out.bytes(), HANDSHAKE_VERILOG);
     Ok(())
 }

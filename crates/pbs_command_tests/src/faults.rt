@@ -1,6 +1,7 @@
 // Calls of the outside that fail: docs/FORMATS.md, "Statuses".
-use crate::files::{HANDSHAKE, REPORT, REQUEST, answer, cut, shelf, sink, stopped, words};
+use crate::files::{REPORT, REQUEST, answer, cut, shelf, sink, stopped, words};
 use pbs_cli::run;
+use pbs_samples::HANDSHAKE;
 use std::test::Fail;
 
 const RESET: &[u8] = b"module m (clk, rst, y); input clk, rst; output y; assign y = rst; endmodule";

@@ -6,10 +6,6 @@ use pbs_cli::run;
 use std::alloc::Global;
 use std::test::Fail;
 
-/// Two requests and their answers, for ever.
-pub(crate) const HANDSHAKE: &[u8] =
-    b"spec 1; input req, ack; action start, done; main = ([~req]*, [req], {start}, [~ack]*, [ack], {done})*;";
-
 /// A request and its answer, and the report of the handshake on it.
 pub(crate) const REQUEST: &[u8] = b"trace i_req i_ack\n00\n10\n00\n01\n";
 

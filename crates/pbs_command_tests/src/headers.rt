@@ -1,5 +1,6 @@
 // The first line of a trace: docs/FORMATS.md, "Trace".
-use crate::files::{HANDSHAKE, answer};
+use crate::files::answer;
+use pbs_samples::HANDSHAKE;
 use std::test::Fail;
 
 // A good header has each port once.

@@ -16,6 +16,4 @@ mod netlists;
 #[cfg(test)]
 mod reports;
 #[cfg(test)]
-mod verilog;
-#[cfg(test)]
 mod wanting;

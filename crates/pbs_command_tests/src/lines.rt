@@ -1,5 +1,6 @@
 // The rows of a trace: docs/FORMATS.md, "Trace". The first row begins at byte 18.
-use crate::files::{HANDSHAKE, answer};
+use crate::files::answer;
+use pbs_samples::HANDSHAKE;
 use std::test::Fail;
 
 #[test]

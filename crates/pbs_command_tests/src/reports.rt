@@ -1,5 +1,6 @@
 // Reports of specifications: docs/FORMATS.md, "Report".
-use crate::files::{HANDSHAKE, REPORT, REQUEST, answer};
+use crate::files::{REPORT, REQUEST, answer};
+use pbs_samples::HANDSHAKE;
 use std::test::Fail;
 
 const STEP: &[u8] = b"spec 1; input a; action x, y; main = {x}, [a], {y};";

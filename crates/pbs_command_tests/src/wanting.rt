@@ -1,7 +1,8 @@
 // Words of no command.
-use crate::files::{HANDSHAKE, REQUEST, shelf, sink, words};
+use crate::files::{REQUEST, shelf, sink, words};
 use pbs_base::Shelf;
 use pbs_cli::run;
+use pbs_samples::HANDSHAKE;
 use std::test::Fail;
 
 #[test]

@@ -16,13 +16,14 @@ use Rattle.net_core.specs.declared.gate.Gate as gate
 use Rattle.net_core.specs.declared.netlist.Output.{Output}
 use Rattle.net_core.specs.Rows.{Row, IsRow, value}
 use Rattle.net_core.specs.Circuits.{Circuit, IsNewName, output_gate, wire_at, IsThere, Exists, AllThere, IsCircuit}
+use Rattle.net_core.specs.Circuits.{output_names}
 use Rattle.net_core.specs.Circuits.{IsBuilt}
 use Rattle.net_core.specs.Building.{AddsOutput, Keeps, HasAll, with_output, buffer_of, gate_input_pins, input_pins}
 use Rattle.net_core.proofs.Pushed.{get_pushed}
 use Rattle.pbs_base.specs.declared.entry.Entry.{Entry}
 use Rattle.pbs_ast.specs.Trees.{Tree, has_no_scope}
 use Rattle.frag_compose.specs.Composes.{Composes, Follows, FollowsAlways, FollowsRow}
-use Rattle.pbs_controller.specs.Ports.{ports_of, output_names}
+use Rattle.pbs_controller.specs.Ports.{ports_of}
 use Rattle.pbs_controller.specs.Outputs.{Shows, ReadsNone, AreUnread, AddedLast}
 use Rattle.pbs_controller.specs.Controllers.{IsController, ShowsRow}
 

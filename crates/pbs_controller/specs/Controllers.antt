@@ -6,11 +6,11 @@ use Rattle.pbs_ast.specs.Trees.{Tree, has_no_scope}
 use Rattle.pbs_ast.specs.Sound.{node_count, place_count, tree_input_leaves}
 use Rattle.pbs_derive.specs.Derivations.{stands, fires, NoOverlapBelow}
 use Rattle.net_core.specs.Rows.{Row}
-use Rattle.net_core.specs.Circuits.{Circuit, IsBuilt}
+use Rattle.net_core.specs.Circuits.{Circuit, IsBuilt, output_names}
 use Rattle.net_core.specs.Building.{gate_input_pins, input_pins}
 use Rattle.net_core.specs.Runs.{IsRun, next_of, output_value}
 use Rattle.pbs_controller.specs.Outputs.{AreUnread}
-use Rattle.pbs_controller.specs.Ports.{ports_of, output_names}
+use Rattle.pbs_controller.specs.Ports.{ports_of}
 
 -- over the vectors since the last reset: after row k register p tells whether place p stands, and in row k output a
 -- tells whether action a fires

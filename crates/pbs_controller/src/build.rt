@@ -3,10 +3,9 @@ ghost use Rattle.std.specs.Prelude.{◌≡◌, ◌≤◌, ◌<◌, ◌+◌, [], 
 ghost use Rattle.pbs_ast.specs.Trees.{tree_of};
 ghost use Rattle.pbs_ast.specs.Sound.{actions_below, inputs_below};
 ghost use Rattle.net_core.specs.Building.{HasAll, Keeps, gate_input_pins};
-ghost use Rattle.net_core.specs.Circuits.{IsBuilt, IsCircuit};
+ghost use Rattle.net_core.specs.Circuits.{IsBuilt, IsCircuit, output_names};
 ghost use Rattle.pbs_controller.specs.Controllers.{IsController};
 ghost use Rattle.pbs_controller.specs.Outputs.{AddedLast, Shows};
-ghost use Rattle.pbs_controller.specs.Ports.{output_names};
 
 use crate::ports::prefixed;
 use frag_compose::compose;

@@ -7,11 +7,11 @@ use Rattle.pbs_ast.specs.Sound.{node_count, place_count}
 use Rattle.pbs_rules.specs.Naming.{input_names, action_names}
 use Rattle.pbs_expand.specs.Expanded.{expanded}
 use Rattle.net_core.specs.Rows.{Row}
-use Rattle.net_core.specs.Circuits.{Circuit, IsBuilt}
+use Rattle.net_core.specs.Circuits.{Circuit, IsBuilt, output_names}
 use Rattle.net_core.specs.Runs.{IsRun}
 use Rattle.vlog_text.specs.Reading.{StandsFor}
 use Rattle.pbs_controller.specs.Controllers.{ShowsRow}
-use Rattle.pbs_controller.specs.Ports.{ports_of, output_names}
+use Rattle.pbs_controller.specs.Ports.{ports_of}
 use Rattle.pbs_engine.specs.declared.fail.EngineFail.{EngineFail}
 use Rattle.pbs_engine.specs.declared.fail.EngineFail.TheVariants as fails
 use Rattle.pbs_engine.specs.Accepted as specifications

@@ -12,7 +12,6 @@ ghost use Rattle.pbs_engine.specs.Made.{Makes};
 
 use crate::fail::EngineFail;
 use crate::front::{Found, find};
-use crate::words::names_of;
 use net_core::Netlist;
 use pbs_ast::{Spec, Tree, TreeKind};
 use pbs_base::{Memory, Refusal, Span, Subject};
@@ -102,7 +101,7 @@ fn controller_of(alloc: Global, found: &Found) -> Result<Netlist, Memory>
     within_limits();
     let input_list = input_words(alloc, &found.spec.inputs)?;
     let action_list = action_words(alloc, &found.spec.actions)?;
-    let inputs = names_of(alloc, input_list.as_slice())?;
-    let actions = names_of(alloc, action_list.as_slice())?;
+    let inputs = Names::from_words(alloc, input_list.as_slice())?;
+    let actions = Names::from_words(alloc, action_list.as_slice())?;
     build_controller(alloc, &inputs, &actions, &found.main)
 }

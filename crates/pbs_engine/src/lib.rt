@@ -8,7 +8,6 @@ mod files;
 mod front;
 pub mod laws;
 mod tracing;
-mod words;
 
 pub use compiling::compile;
 pub use fail::EngineFail;

@@ -5,7 +5,6 @@ use Rattle.pbs_base.specs.declared.entry.Entry.{Entry}
 use Rattle.pbs_base.specs.declared.entry.Entry.TheVariants.{Vector, Reset}
 use Rattle.pbs_base.specs.declared.refusal.Refusal.{Refusal}
 use Rattle.pbs_base.specs.declared.refusal.Subject.TheVariants.{Trace}
-use Rattle.trace_text.specs.Reports.{Ending, End, Refused}
 
 -- ---- lines
 
@@ -86,6 +85,11 @@ abbrev pub row : List ℕ → ℕ → List ℕ → Found
 row order at line =
     if is_too_long at line && nat_le 67108864 (at + right (length order) line) then Wrong (refused 1 67108864 67108865)
     else (if is_good (length order) line then Good (entry order line) else Wrong (wrong_row (length order) at line))
+
+-- how a trace ends
+pub data Ending : Type 0 where
+  End : Ending
+  Refused : (refusal : Refusal) → Ending
 
 -- the entries of the good rows, and how the trace ends
 pub record Rows : Type 0 where

@@ -4,7 +4,7 @@ use Rattle.std.proofs.Common.{append-nil, arith, codes, decimal}
 use Rattle.std.specs.Io.KnownBytes.{append_known}
 use Rattle.pbs_base.specs.Outside.{SinkState, Writes, WritesFront}
 use Rattle.pbs_base.proofs.WrittenLemmas.{append_known-nil, append_known-twice}
-use Rattle.trace_text.specs.Reports.{End, last_line}
+use Rattle.trace_text.specs.Reports.{end_line}
 use Rattle.trace_text.specs.Held.{PassesOn, Holds}
 
 -- all that was held was written, and then the piece
@@ -209,12 +209,12 @@ first_part_cut {T} {U} a b first written second held held_now e f is one =
 
 -- ---- the last line
 
-last_text : (count : ℕ) → (codes "end " ++ decimal count) ++ codes "\n" ≡ last_line count End
+last_text : (count : ℕ) → (codes "end " ++ decimal count) ++ codes "\n" ≡ end_line count
 last_text count = append_assoc (codes "end ") (decimal count) (codes "\n")
 
 pub end_held : {T U E : Type 0} (a b c : SinkState) (count : ℕ) (digits held held_now held_then : List ℕ) (x : U)
     (result : Result T E) → digits ≡ decimal count → Holds {E = E} a b held held_now (codes "end " ++ digits) (Ok x)
-    → Holds b c held_now held_then (codes "\n") result → Holds a c held held_then (last_line count End) result
+    → Holds b c held_now held_then (codes "\n") result → Holds a c held held_then (end_line count) result
 end_held a b c count digits held held_now held_then x result is one two =
     subst (λ l. Holds a c held held_then l result) (last_text count)
     (two_parts a b c (codes "end " ++ decimal count) (codes "end " ++ digits) (codes "\n") held held_now held_then
@@ -222,7 +222,7 @@ end_held a b c count digits held held_now held_then x result is one two =
 
 pub end_cut : {T U E F : Type 0} (a b : SinkState) (count : ℕ) (digits held held_now : List ℕ) (e : E) (f : F)
     → digits ≡ decimal count → Holds {T = T} a b held held_now (codes "end " ++ digits) (Err e)
-    → Holds {T = U} a b held held_now (last_line count End) (Err f)
+    → Holds {T = U} a b held held_now (end_line count) (Err f)
 end_cut {T} {U} a b count digits held held_now e f is one =
     subst (λ l. Holds {T = U} a b held held_now l (Err f)) (last_text count)
     (first_part_cut a b (codes "end " ++ decimal count) (codes "end " ++ digits) (codes "\n") held held_now e f

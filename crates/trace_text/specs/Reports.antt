@@ -1,8 +1,6 @@
 -- The report of a run: a line for each row, and how it ends.
 use Rattle.std.specs.Prelude.{ℕ, zero, suc, ◌+◌, Bool, List, [], ◌∷◌, ◌++◌, codes, decimal, if◌then◌else◌}
 use Rattle.pbs_base.specs.Entries.{bit}
-use Rattle.pbs_base.specs.Refusal.{refusal_line}
-use Rattle.pbs_base.specs.declared.refusal.Refusal.{Refusal}
 
 -- one space and the name for each output that is 1, from output n on
 abbrev pub names_on : (ℕ → Bool) → List (List ℕ) → ℕ → List ℕ
@@ -26,15 +24,6 @@ abbrev pub rows_text : List (List ℕ) → (ℕ → ℕ → Bool) → ℕ → �
 rows_text names outputs k zero = []
 rows_text names outputs k (suc n) = row_line names k (outputs k) ++ rows_text names outputs (suc k) n
 
--- how a report ends
-pub data Ending : Type 0 where
-  End : Ending
-  Refused : (refusal : Refusal) → Ending
-
-abbrev pub last_line : ℕ → Ending → List ℕ
-last_line count End = codes "end " ++ (decimal count ++ codes "\n")
-last_line count (Refused refusal) = refusal_line refusal
-
--- row 0 and a row for each of the entries, then the number of entries or the refusal
-abbrev pub report : List (List ℕ) → (ℕ → ℕ → Bool) → ℕ → Ending → List ℕ
-report names outputs count ending = rows_text names outputs 0 (suc count) ++ last_line count ending
+-- the last line of a report of so many entries
+abbrev pub end_line : ℕ → List ℕ
+end_line count = codes "end " ++ (decimal count ++ codes "\n")

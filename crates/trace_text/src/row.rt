@@ -2,7 +2,7 @@
 ghost use Rattle.std.specs.Prelude.{◌≡◌, ◌≤◌, ◌<◌, ◌++◌, length};
 ghost use Rattle.trace_text.specs.Held.{Holds};
 ghost use Rattle.trace_text.specs.HeldBytes.{held_bytes};
-ghost use Rattle.trace_text.specs.Reports.{End, is_on, last_line, row_line};
+ghost use Rattle.trace_text.specs.Reports.{is_on, end_line, row_line};
 
 use crate::Held;
 use itoa::Buffer;
@@ -67,7 +67,7 @@ pub fn hold_row<K: Sink>(
 /// Adds the last line of a report that ends with its trace: how many entries there were.
 pub fn hold_end<K: Sink>(held: &mut Held, sink: &mut K, count: u64) -> Result<(), WriteFail>
     ensures { Holds (K.state sink.old) (K.state sink.new) (held_bytes held.old) (held_bytes held.new)
-        (last_line count End) result }
+        (end_line count) result }
 {
     let mut digits = Buffer::new();
     let Ok(()) = write_both(held, sink, b"end ", digits.format(count).as_bytes()) else {

@@ -8,8 +8,8 @@ use Rattle.std.proofs.lemmas.Bool.{eq-eqb}
 use Rattle.std.proofs.lemmas.Option.{same_Some}
 use Rattle.net_core.specs.declared.gate.Gate as gate
 use Rattle.net_core.specs.declared.netlist.Output.{Output}
-use Rattle.net_core.specs.Circuits.{Circuit, IsCircuit}
-use Rattle.vlog_text.specs.Emitted.{driven, target_text, gate_name, reg_name, output_names}
+use Rattle.net_core.specs.Circuits.{Circuit, IsCircuit, output_names}
+use Rattle.vlog_text.specs.Emitted.{driven, target_text, gate_name, reg_name}
 use Rattle.vlog_text.specs.PortNames.{IsPortName, port_names, HasPortNames}
 use Rattle.vlog_round.proofs.Lists.{get_left, Each, each-append, each_from, each_at, each_so}
 use Rattle.vlog_round.proofs.Names.{bytes_itself, bytes_apart, apart_back, reg_once}

@@ -10,7 +10,7 @@ use Rattle.net_core.specs.declared.gate.Wire.{Wire}
 use Rattle.net_core.specs.declared.gate.Wire.TheVariants as wire
 use Rattle.net_core.specs.declared.gate.Gate as gate
 use Rattle.net_core.specs.declared.netlist.Output.{Output}
-use Rattle.net_core.specs.Circuits.{Circuit, IsCircuit, IsThere}
+use Rattle.net_core.specs.Circuits.{Circuit, IsCircuit, IsThere, output_names}
 use Rattle.vlog_text.specs.declared.raw.DeclKind.{DeclKind}
 use Rattle.vlog_text.specs.declared.raw.DeclKind.TheVariants as kind
 use Rattle.vlog_text.specs.declared.raw.RawName.{RawName}
@@ -21,7 +21,7 @@ use Rattle.vlog_text.specs.declared.raw.RawPin.{RawPin}
 use Rattle.vlog_text.specs.declared.raw.RawPin.TheVariants as pin
 use Rattle.vlog_text.specs.declared.raw.Target.{Target}
 use Rattle.vlog_text.specs.declared.raw.Target.TheVariants as target
-use Rattle.vlog_text.specs.Emitted.{driven, target_text, gate_name, reg_name, output_names}
+use Rattle.vlog_text.specs.Emitted.{driven, target_text, gate_name, reg_name}
 use Rattle.vlog_text.specs.PortNames.{IsPortName, HasPortNames}
 use Rattle.vlog_text.specs.Words.{target_name, pin_name, gate_targets, reg_targets, operands}
 use Rattle.vlog_text.specs.Standing.{is_input, is_reg, is_clock, is_declared}

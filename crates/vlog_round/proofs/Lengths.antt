@@ -13,9 +13,9 @@ use Rattle.net_core.specs.declared.gate.GateKind.{GateKind}
 use Rattle.net_core.specs.declared.gate.GateKind.TheVariants as kind
 use Rattle.net_core.specs.declared.gate.Gate as gate
 use Rattle.net_core.specs.declared.netlist.Output.{Output}
-use Rattle.net_core.specs.Circuits.{Circuit, IsCircuit, IsThere, is_plain_kind, IsPlain, IsBuilt}
+use Rattle.net_core.specs.Circuits.{Circuit, IsCircuit, IsThere, is_plain_kind, IsPlain, IsBuilt, output_names}
 use Rattle.vlog_text.specs.Emitted.{driven, target_text, gate_name, reg_name, operand_text, kind_text, listed, declared}
-use Rattle.vlog_text.specs.Emitted.{wire_line, gate_line, always_line, numbered, output_names, module_line, input_lines}
+use Rattle.vlog_text.specs.Emitted.{wire_line, gate_line, always_line, numbered, module_line, input_lines}
 use Rattle.vlog_text.specs.Emitted.{output_lines, reg_lines, wire_lines, gate_lines, always_lines, emitted}
 use Rattle.vlog_text.specs.PortNames.{port_names, HasPortNames}
 use Rattle.vlog_text.specs.Reading.{IsShort}

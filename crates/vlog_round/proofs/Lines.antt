@@ -7,12 +7,12 @@ use Rattle.net_core.specs.declared.gate.Wire.{Wire}
 use Rattle.net_core.specs.declared.gate.Wire.TheVariants as wire
 use Rattle.net_core.specs.declared.gate.Gate as gate
 use Rattle.net_core.specs.declared.netlist.Output.{Output}
-use Rattle.net_core.specs.Circuits.{Circuit}
+use Rattle.net_core.specs.Circuits.{Circuit, output_names}
 use Rattle.vlog_text.specs.declared.raw.DeclKind.{DeclKind}
 use Rattle.vlog_text.specs.declared.raw.DeclKind.TheVariants as decl
 use Rattle.vlog_text.specs.declared.token.TokenKind.TheVariants as kind
 use Rattle.vlog_text.specs.Emitted.{driven, gate_name, reg_name, operand_text, kind_text, listed, declared, wire_line}
-use Rattle.vlog_text.specs.Emitted.{gate_line, always_line, numbered, output_names, reg_lines, wire_lines, gate_lines}
+use Rattle.vlog_text.specs.Emitted.{gate_line, always_line, numbered, reg_lines, wire_lines, gate_lines}
 use Rattle.vlog_text.specs.Emitted.{always_lines, emitted}
 use Rattle.vlog_text.specs.PortNames.{port_names}
 use Rattle.vlog_round.proofs.Pieces.{Piece, Blank, Sign, Word, text}

@@ -10,7 +10,7 @@ use Rattle.net_core.specs.declared.gate.Wire.{Wire}
 use Rattle.net_core.specs.declared.gate.Wire.TheVariants as wire
 use Rattle.net_core.specs.declared.gate.Gate as gate
 use Rattle.net_core.specs.declared.netlist.Output.{Output}
-use Rattle.net_core.specs.Circuits.{Circuit, circuit_of, IsCircuit, IsThere}
+use Rattle.net_core.specs.Circuits.{Circuit, circuit_of, IsCircuit, IsThere, output_names}
 use Rattle.vlog_text.specs.declared.raw.DeclKind.{DeclKind}
 use Rattle.vlog_text.specs.declared.raw.DeclKind.TheVariants as kind
 use Rattle.vlog_text.specs.declared.raw.RawName.{RawName}
@@ -22,7 +22,7 @@ use Rattle.vlog_text.specs.declared.raw.RawPin.{RawPin}
 use Rattle.vlog_text.specs.declared.raw.RawPin.TheVariants as pin
 use Rattle.vlog_text.specs.declared.raw.Target.{Target}
 use Rattle.vlog_text.specs.declared.raw.Target.TheVariants as target
-use Rattle.vlog_text.specs.Emitted.{gate_name, reg_name, output_names}
+use Rattle.vlog_text.specs.Emitted.{gate_name, reg_name}
 use Rattle.vlog_text.specs.PortNames.{IsPortName, HasPortNames}
 use Rattle.vlog_text.specs.Words.{target_name}
 use Rattle.vlog_text.specs.Orders.{order_of, place_in, renumbered, reordered}

@@ -11,11 +11,11 @@ use Rattle.net_core.specs.declared.gate.GateKind.{GateKind}
 use Rattle.net_core.specs.declared.gate.GateKind.TheVariants as gates
 use Rattle.net_core.specs.declared.gate.Gate as gate
 use Rattle.net_core.specs.declared.netlist.Output.{Output}
-use Rattle.net_core.specs.Circuits.{Circuit, IsCircuit, IsThere}
+use Rattle.net_core.specs.Circuits.{Circuit, IsCircuit, IsThere, output_names}
 use Rattle.vlog_text.specs.declared.raw.DeclKind.{DeclKind}
 use Rattle.vlog_text.specs.declared.raw.DeclKind.TheVariants as decl
 use Rattle.vlog_text.specs.declared.token.TokenKind.TheVariants as kind
-use Rattle.vlog_text.specs.Emitted.{driven, target_text, gate_name, reg_name, operand_text, kind_text, output_names}
+use Rattle.vlog_text.specs.Emitted.{driven, target_text, gate_name, reg_name, operand_text, kind_text}
 use Rattle.vlog_text.specs.PortNames.{IsPortName, port_names, HasPortNames}
 use Rattle.vlog_round.proofs.Lists.{Each, each-append, each_left, each_right, each-map, each_mapped, each_from, each_at}
 use Rattle.vlog_round.proofs.Lists.{each_so}

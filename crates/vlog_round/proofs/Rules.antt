@@ -9,13 +9,13 @@ use Rattle.std.proofs.lemmas.List.Elements.{filter-append}
 use Rattle.std.proofs.lemmas.List.Folds.{list_any-append}
 use Rattle.net_core.specs.declared.gate.Gate as gate
 use Rattle.net_core.specs.declared.netlist.Output.{Output}
-use Rattle.net_core.specs.Circuits.{Circuit, IsCircuit}
+use Rattle.net_core.specs.Circuits.{Circuit, IsCircuit, output_names}
 use Rattle.vlog_text.specs.declared.raw.DeclKind.{DeclKind}
 use Rattle.vlog_text.specs.declared.raw.DeclKind.TheVariants as kind
 use Rattle.vlog_text.specs.declared.raw.RawName.{RawName}
 use Rattle.vlog_text.specs.declared.raw.RawDecl.{RawDecl}
 use Rattle.vlog_text.specs.declared.raw.RawNetlist.{RawNetlist}
-use Rattle.vlog_text.specs.Emitted.{driven, gate_name, reg_name, output_names}
+use Rattle.vlog_text.specs.Emitted.{driven, gate_name, reg_name}
 use Rattle.vlog_text.specs.PortNames.{HasPortNames}
 use Rattle.vlog_text.specs.Words.{has_word, is_named, repeated, decl_names, gate_targets, reg_targets, operands, uses}
 use Rattle.vlog_text.specs.Standing.{is_input, is_output, is_reg, is_port, is_clock, is_reset, is_declared, the_order}

@@ -6,7 +6,7 @@ use Rattle.net_core.specs.declared.gate.Wire.{Wire}
 use Rattle.net_core.specs.declared.gate.Wire.TheVariants as wire
 use Rattle.net_core.specs.declared.gate.Gate as gate
 use Rattle.net_core.specs.declared.netlist.Output.{Output}
-use Rattle.net_core.specs.Circuits.{Circuit}
+use Rattle.net_core.specs.Circuits.{Circuit, output_names}
 use Rattle.vlog_text.specs.declared.raw.DeclKind.{DeclKind}
 use Rattle.vlog_text.specs.declared.raw.DeclKind.TheVariants as kind
 use Rattle.vlog_text.specs.declared.raw.RawName.{RawName}
@@ -18,7 +18,7 @@ use Rattle.vlog_text.specs.declared.raw.RawPin.{RawPin}
 use Rattle.vlog_text.specs.declared.raw.RawPin.TheVariants as pin
 use Rattle.vlog_text.specs.declared.raw.Target.{Target}
 use Rattle.vlog_text.specs.declared.raw.Target.TheVariants as target
-use Rattle.vlog_text.specs.Emitted.{driven, gate_name, reg_name, operand_text, output_names}
+use Rattle.vlog_text.specs.Emitted.{driven, gate_name, reg_name, operand_text}
 use Rattle.vlog_text.specs.PortNames.{port_names}
 use Rattle.vlog_round.proofs.Names.{wire_name}
 

@@ -73,9 +73,6 @@ abbrev pub numbered : {A : Type 0} → (ℕ → A → List ℕ) → ℕ → List
 numbered line n [] = []
 numbered line n (x ∷ xs) = line n x ++ numbered line (n + 1) xs
 
-abbrev pub output_names : Circuit → List (List ℕ)
-output_names c = map (λ (o : Output). o.name) c.outputs
-
 abbrev pub module_line : Circuit → List ℕ
 module_line c =
     codes "module pbs (clk, rst" ++ flat_map listed c.inputs ++ flat_map listed (output_names c) ++ codes ");\n"

@@ -2,9 +2,8 @@
 use Rattle.std.specs.Prelude.{◌≡◌, ℕ, ◌≤◌, Bool, ◌&&◌, ◌||◌, IsTrue, List, ◌++◌, length, take, codes, slice_get, Some}
 use Rattle.std.specs.List.{list_all}
 use Rattle.std.specs.Str.{bytes_eq}
-use Rattle.net_core.specs.Circuits.{Circuit}
+use Rattle.net_core.specs.Circuits.{Circuit, output_names}
 use Rattle.vlog_text.specs.Lexing.{is_name_byte}
-use Rattle.vlog_text.specs.Emitted.{output_names}
 
 abbrev pub begins_with : List ℕ → List ℕ → Bool
 begins_with front name = bytes_eq (take (length front) name) front

@@ -4,8 +4,8 @@ use Rattle.net_core.specs.declared.netlist.Output.{Output}
 use Rattle.net_trace.proofs.WordLists.{outputs_differ, few_found}
 use Rattle.net_trace.proofs.names.port_names.Goals as goal
 
-pub names_of-requires : goal.names_of-requires
-names_of-requires c =
+pub from_words-requires : goal.names_of-requires
+from_words-requires c =
     let words = c.as_slice.ensures.value
     ∙ (c.in_ok-words.ensures ∙ ap (map (λ (o : Output). o.name)) c.outputs.ensures) in
     subst AreDifferent (sym words) (outputs_differ c.args.net.now c.gates.ensures.right)
@@ -14,4 +14,4 @@ pub returns-clause-few : goal.returns-clause-few
 returns-clause-few c =
     let words = c.as_slice.ensures.value
     ∙ (c.in_ok-words.ensures ∙ ap (map (λ (o : Output). o.name)) c.outputs.ensures) in
-    few_found c.args.net.now _ c.names_of.result c.gates.ensures.right words c.names_of.ensures
+    few_found c.args.net.now _ c.from_words.result c.gates.ensures.right words c.from_words.ensures

@@ -1,9 +1,9 @@
 use Rattle.std.proofs.Common.{◌≡◌, ◌≤◌, ◌+◌, sym, subst, ap, ◌∙◌, length, codes}
 use Rattle.pbs_ast.specs.Trees.{tree_of}
-use Rattle.net_core.specs.Circuits.{Circuit}
+use Rattle.net_core.specs.Circuits.{Circuit, output_names}
 use Rattle.net_core.specs.Building.{Keeps, gate_input_pins}
 use Rattle.frag_compose.specs.Composes.{Composes, Follows, FollowsAlways}
-use Rattle.pbs_controller.specs.Ports.{ports_of, output_names}
+use Rattle.pbs_controller.specs.Ports.{ports_of}
 use Rattle.pbs_controller.specs.Outputs.{Shows, AddedLast}
 use Rattle.pbs_controller.proofs.OutputLemmas.{is_controller, length-ports}
 use Rattle.pbs_controller.proofs.build.build_controller.Goals as goal

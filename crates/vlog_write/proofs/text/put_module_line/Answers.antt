@@ -1,7 +1,8 @@
 use Rattle.std.proofs.Common.{◌++◌, ◌∙◌, ap, map, codes}
 use Rattle.std.specs.List.{flat_map}
 use Rattle.net_core.specs.declared.netlist.Output.{Output}
-use Rattle.vlog_text.specs.Emitted.{listed, output_names}
+use Rattle.vlog_text.specs.Emitted.{listed}
+use Rattle.net_core.specs.Circuits.{output_names}
 use Rattle.vlog_write.proofs.Pieces.{more, then}
 use Rattle.vlog_write.proofs.text.put_module_line.Goals as goal
 

@@ -1,8 +1,13 @@
-// The Verilog of the handshake.
+//! Worked texts that several crates of tests share.
+#![tactic(auto)]
 
-/// By the meaning of gates in docs/VERILOG.md it fires what the specification fires, in each row of each run of up to 8
-/// vectors. That was tried outside of this repository.
-pub(crate) const VERILOG: &[u8] = b"module pbs (clk, rst, i_req, i_ack, a_start, a_done);
+/// The handshake: two requests and their answers, for ever.
+pub const HANDSHAKE: &[u8] =
+    b"spec 1; input req, ack; action start, done; main = ([~req]*, [req], {start}, [~ack]*, [ack], {done})*;";
+
+/// The Verilog of the handshake. By the meaning of gates in docs/VERILOG.md it fires what the specification fires, in
+/// each row of each run of up to 8 vectors: that was compared with an interpreter that is no part of this repository.
+pub const HANDSHAKE_VERILOG: &[u8] = b"module pbs (clk, rst, i_req, i_ack, a_start, a_done);
 input clk;
 input rst;
 input i_req;
