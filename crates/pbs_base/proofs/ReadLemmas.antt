@@ -73,6 +73,13 @@ taken_so_far : (a b : ShelfState) (slot most : ℕ) (out : List ℕ) → HasRead
     → TakesAtMost (a.slots slot).left (b.slots slot).left most
 taken_so_far a b slot most out so_far few = record { taken = out; few = few; left = so_far.left }
 
+-- a read of no bytes leaves what was left
+none_moved : {E : Type 0} (b c : ShelfState) (slot : ℕ) (buffer : List ℕ) (n : ℕ) → Reads {E = E} b c slot buffer (Ok n)
+    → n ≡ 0 → (b.slots slot).left ≡ (c.slots slot).left
+none_moved b c slot buffer n read none =
+    read.moved ∙ (ap (λ k. prepend_known (take k buffer) (c.slots slot).left) none
+    ∙ prepend_known-nil (c.slots slot).left)
+
 pub read_whole : {T E : Type 0} (x : T) (a b c : ShelfState) (slot limit : ℕ) (out buffer : List ℕ) (n : ℕ)
     → HasRead a b slot out → Reads {E = E} b c slot buffer (Ok n) → n ≡ 0 → length out ≤ limit
     → ReadsAll {T = T} a c slot limit out (Ok x)
@@ -86,6 +93,7 @@ read_whole x a b c slot limit out buffer n so_far read none short =
       stands = done.stands;
       takes = taken_so_far a c slot (limit + 1) out done (omega arith);
       gives = λ text told. let same = all text told in (same, subst (λ l. length l ≤ limit) same short);
+      ended = subst IsAtEnd (none_moved b c slot buffer n read none) (read.end none);
       cause = λ bad. absurd (let h : Ok x ≡ Err Fault = bad in cc);
       never = λ _ _ bad. let h : Ok x ≡ Err Fault = bad in cc;
     }
@@ -102,6 +110,7 @@ read_too_long a b slot limit all out so_far long few cut = record {
       let f = front_of _ _ all so_far.left text told in
       let longer : length all + length f.rest ≡ length text = sym (length-append all f.rest) ∙ ap length f.whole in
       (cut ∙ (sym (take-append-le limit all f.rest (omega arith)) ∙ ap (take limit) f.whole), omega arith);
+  ended = tt;
   cause = λ bad. absurd (let h : Err TooLong ≡ Err Fault = bad in cc);
   never = λ _ _ bad. let h : Err TooLong ≡ Err Fault = bad in cc;
 }
@@ -117,6 +126,7 @@ read_fault a b c slot limit out buffer e so_far short read =
       stands = done.stands;
       takes = taken_so_far a c slot (limit + 1) out done (omega arith);
       gives = front_of _ _ out done.left;
+      ended = tt;
       cause = λ _. let rose = read.cause in let later = so_far.goes_on.later in omega arith;
       never = λ calm stood _. let bad = read.never (so_far.goes_on.sound calm) (so_far.stands ∙ stood) in cc;
     }
@@ -135,6 +145,7 @@ read_but_no_memory a b c slot limit out buffer next n so_far read few same =
           (omega (arith, length-append out (take n buffer), length-take n buffer));
       gives = λ text told. let f = front_of _ _ out so_far.left text told in record
           { rest = f.rest; whole = ap (λ l. l ++ f.rest) same ∙ f.whole };
+      ended = tt;
       cause = λ bad. absurd (let h : Err Memory ≡ Err Fault = bad in cc);
       never = λ _ _ bad. let h : Err Memory ≡ Err Fault = bad in cc;
     }
@@ -147,6 +158,7 @@ read_no_memory a b slot limit out so_far none = record {
   stands = so_far.stands;
   takes = taken_so_far a b slot (limit + 1) out so_far (omega (arith, ap length none));
   gives = front_of _ _ out so_far.left;
+  ended = tt;
   cause = λ bad. absurd (let h : Err Memory ≡ Err Fault = bad in cc);
   never = λ _ _ bad. let h : Err Memory ≡ Err Fault = bad in cc;
 }

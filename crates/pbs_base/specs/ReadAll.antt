@@ -1,7 +1,8 @@
 -- What `read_all` gives of the bytes that were left in a slot.
 use Rattle.std.specs.Prelude.{◌≡◌, ◌≢◌, ℕ, ◌+◌, ◌-◌, ◌≤◌, ◌<◌, true, List, ◌++◌, length, take, Option, Result, Ok, Err}
+use Rattle.std.specs.Prelude.{OnOk}
 use Rattle.std.specs.Option.{ForSome}
-use Rattle.std.specs.Io.KnownBytes.{prepend_known}
+use Rattle.std.specs.Io.KnownBytes.{prepend_known, IsAtEnd}
 use Rattle.pbs_base.specs.Outside.{ShelfState, GoesOn, Rose}
 use Rattle.pbs_base.specs.declared.read.ReadFail.{ReadFail}
 use Rattle.pbs_base.specs.declared.read.ReadFail.TheVariants.{Fault, TooLong, Memory}
@@ -31,5 +32,7 @@ pub record ReadsAll {T : Type 0} (before now : ShelfState) (slot limit : ℕ) (o
   pub stands : (now.slots slot).stands ≡ (before.slots slot).stands
   pub takes : TakesAtMost (before.slots slot).left (now.slots slot).left (limit + 1)
   pub gives : ForSome (before.slots slot).left (GivesOf result limit out)
+  -- a read of no bytes told that nothing is left
+  pub ended : OnOk result (IsAtEnd (now.slots slot).left)
   pub cause : result ≡ Err Fault → Rose before.faults now.faults
   pub never : before.sound ≡ true → (before.slots slot).stands ≡ true → result ≢ Err Fault
