@@ -4,7 +4,7 @@ use Rattle.pbs_base.specs.Outside.{SinkState}
 use Rattle.pbs_base.specs.declared.entry.Entry.{Entry}
 use Rattle.pbs_base.specs.declared.refusal.Refusal.{Refusal}
 use Rattle.net_core.specs.Circuits.{Circuit}
-use Rattle.trace_text.specs.Reports as reports
+use Rattle.trace_reader.specs.Traces as traces
 use Rattle.trace_reader.specs.Headers.{Traced, trace}
 use Rattle.trace_reader.specs.States.{ReaderState, ReadsRow}
 use Rattle.trace_reader.specs.declared.answers.Row as answers
@@ -17,7 +17,7 @@ use Rattle.net_trace.proofs.TextLemmas.{end_traced, last_refused, last_traced, n
 use Rattle.net_trace.proofs.OutcomeLemmas.{Runs, cut_at_end, cut_report, read_of, refused_report, whole_report}
 
 ends_there : (net : Circuit) (before now : SinkState) (text : List ℕ) (entries : List Entry) → Runs net
-    → trace net.inputs text ≡ Traced (read_of entries reports.End) → (result : Result (Unit {0}) RunFail)
+    → trace net.inputs text ≡ Traced (read_of entries traces.End) → (result : Result (Unit {0}) RunFail)
     → Ends net before entries now result → FinishesLater net before text now result
 ends_there net before now text entries runs traced (Ok x) h =
     record { later = h.later; finishes = whole_report net before now text entries runs traced h }
@@ -28,7 +28,7 @@ ends_there net before now text entries runs traced (Err fails.ReadFault) h = abs
 ends_there net before now text entries runs traced (Err fails.Memory) h = absurd h
 
 refused_there : (net : Circuit) (before now : SinkState) (text : List ℕ) (entries : List Entry) (r : Refusal)
-    → Runs net → trace net.inputs text ≡ Traced (read_of entries (reports.Refused r))
+    → Runs net → trace net.inputs text ≡ Traced (read_of entries (traces.Refused r))
     → (result : Result (Unit {0}) RunFail) → Refuses net before entries r now result
     → FinishesLater net before text now result
 refused_there net before now text entries r runs traced (Ok x) h = absurd h
@@ -40,14 +40,14 @@ refused_there net before now text entries r runs traced (Err fails.WriteFault) h
   later = h.later;
   finishes = (
     h.rose,
-    cut_report net before now text entries (read_of [] (reports.Refused r)) runs
+    cut_report net before now text entries (read_of [] (traces.Refused r)) runs
         (more_traced traced) h,
   );
 }
   where
-    more_traced : trace net.inputs text ≡ Traced (read_of entries (reports.Refused r))
-        → trace net.inputs text ≡ Traced (after entries (read_of [] (reports.Refused r)))
-    more_traced e = e ∙ ap (λ es. Traced (read_of es (reports.Refused r))) (sym (append-nil entries))
+    more_traced : trace net.inputs text ≡ Traced (read_of entries (traces.Refused r))
+        → trace net.inputs text ≡ Traced (after entries (read_of [] (traces.Refused r)))
+    more_traced e = e ∙ ap (λ es. Traced (read_of es (traces.Refused r))) (sym (append-nil entries))
 refused_there net before now text entries r runs traced (Err fails.ReadFault) h = absurd h
 refused_there net before now text entries r runs traced (Err fails.Memory) h = absurd h
 
@@ -92,8 +92,8 @@ finish_cut net before a b s t done used entries report row e all shown reads is 
   later = part.later;
   finishes = (
     part.rose,
-    cut_report net before b done (entries ++ e ∷ []) (read_of [] reports.End) shown.runs
+    cut_report net before b done (entries ++ e ∷ []) (read_of [] traces.End) shown.runs
         (last_traced net.inputs s t done used row entries e all reads is
-        ∙ ap (λ es. Traced (read_of es reports.End)) (sym (append-nil (entries ++ e ∷ [])))) part,
+        ∙ ap (λ es. Traced (read_of es traces.End)) (sym (append-nil (entries ++ e ∷ [])))) part,
   );
 }
