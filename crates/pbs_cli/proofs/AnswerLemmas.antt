@@ -86,6 +86,15 @@ first_more P Q a b name f (first.Refused r) w = λ files told. f _ r (w files to
 first_more P Q a b name f first.Fault w = w
 first_more P Q a b name f first.Memory w = w
 
+pub refused_not_accepted : (k m : SinkState) (text : List ℕ) (end : Status) → WritesText k m text Refused end
+    → end ≡ Accepted → ⊥
+refused_not_accepted k m text Accepted w is = let e = w.0 in cc
+refused_not_accepted k m text WriteFault w is = cc
+refused_not_accepted k m text Refused w is = cc
+refused_not_accepted k m text Usage w is = cc
+refused_not_accepted k m text ReadFault w is = cc
+refused_not_accepted k m text Memory w is = cc
+
 pub reads_more : (P Q : List ℕ → Refusal → Type 0) (a b : ShelfState) (name : List ℕ)
     → ((text : List ℕ) (r : Refusal) → P text r → Q text r) → (result : First) → ReadsFirst P a b name result
     → ReadsFirst Q a b name result
@@ -93,6 +102,7 @@ reads_more P Q a b name f result w = record {
   goes_on = w.goes_on;
   other = w.other;
   gives = first_more P Q a b name f result w.gives;
+  ended = w.ended;
 }
 
 pub long_spec : (text : List ℕ) (r : Refusal) → IsTooLong Spec 1048576 text r → Breaks text r

@@ -1,6 +1,7 @@
 -- How the parts of a command make the command.
 use Rattle.std.proofs.Common.{◌≡◌, ◌≤◌, ℕ, true, List, [], ◌∷◌, ◌++◌, length, Some, refl, sym, ap, subst, ◌∙◌, arith}
 use Rattle.std.specs.Option.{ForSome}
+use Rattle.std.specs.Io.KnownBytes.{IsAtEnd}
 use Rattle.pbs_base.specs.Outside.{ShelfState, SlotState, SinkState, NamedFile, GoesOn, has_file}
 use Rattle.pbs_base.proofs.WrittenLemmas.{append_known-nil}
 use Rattle.net_trace.specs.Taken.{TakenFrom, Untouched, TakesLittle, TakesAtMost, Stops, InHeader, InRows}
@@ -8,7 +9,7 @@ use Rattle.net_trace.specs.Endings.{WroteTaken}
 use Rattle.pbs_engine.specs.Load.{HasFailed}
 use Rattle.pbs_cli.specs.Words.{Command}
 use Rattle.pbs_cli.specs.Answers.{Answer, Task, Ends, Stopped, Defines, NeedsFiles, NeedsNoSecond, HasNeeded, trace_of}
-use Rattle.pbs_cli.specs.Answers.{DueRows, command_task}
+use Rattle.pbs_cli.specs.Answers.{DueRows, ReadToEnd, command_task}
 use Rattle.pbs_cli.specs.Parts.{EndsAlone, EndsRun, EndsCommand}
 use Rattle.pbs_cli.proofs.AnswerLemmas.{nothing_written, wrote_more, cut_more}
 use Rattle.pbs_cli.specs.declared.status.Status.{Status}
@@ -106,11 +107,12 @@ module _ {A : Type 0} (T U : Task A) (part : IsPart T U) (a b c : ShelfState) (k
 
 -- the first file is all that was read
 pub settled : (command : Command) (defines : Answer → Type 0) (a b : ShelfState) (k m : SinkState) (status : Status)
-    → b.slots 1 ≡ a.slots 1
+    → b.slots 1 ≡ a.slots 1 → (status ≡ Accepted → ReadToEnd command b)
     → ForSome a.files (λ files. (answer : Answer) → defines answer → Defines command files answer)
     → EndsAlone defines k m status → EndsCommand command a b k m status
-settled command defines a b k m status other more e = record {
+settled command defines a b k m status other ended more e = record {
   ends = by_status status e;
+  ended = ended;
   second = λ files told none. other;
   few = λ files told. took_few (trace_of command files) (a.slots 1) (b.slots 1) other;
 }
@@ -141,6 +143,7 @@ failed command name a b k other needed has fault = record {
       taken = wrote_nothing (DueRows command files) (trace_of command files) (a.slots 1) (b.slots 1) k other;
     },
   );
+  ended = λ is. absurd (cc);
   second = λ files told none. other;
   few = λ files told. took_few (trace_of command files) (a.slots 1) (b.slots 1) other;
 }
@@ -148,15 +151,17 @@ failed command name a b k other needed has fault = record {
 pub no_memory : (command : Command) (a b : ShelfState) (k : SinkState) → b.slots 1 ≡ a.slots 1
     → EndsCommand command a b k k Memory
 no_memory command a b k other =
-    settled command (λ answer. ⊥) a b k k Memory other (λ files told answer none. absurd none) refl
+    settled command (λ answer. ⊥) a b k k Memory other (λ is. absurd (cc)) (λ files told answer none. absurd none) refl
 
 -- the first file was read, and then a trace was run on
 pub went_on : (command : Command) (T : Task (List NamedFile)) (refused : Type 0) (a b c : ShelfState) (k m : SinkState)
     (status : Status) → GoesOn a b → b.slots 1 ≡ a.slots 1 → IsPart T (command_task command a)
-    → ForSome a.files (λ files. NeedsNoSecond command files → refused) → EndsRun T refused b c k m status
+    → ForSome a.files (λ files. NeedsNoSecond command files → refused) → IsAtEnd (b.slots 0).left
+    → (IsAtEnd (c.slots 0).left × IsAtEnd (c.slots 1).left → ReadToEnd command c) → EndsRun T refused b c k m status
     → EndsCommand command a c k m status
-went_on command T refused a b c k m status goes_on other part none run = record {
+went_on command T refused a b c k m status goes_on other part none first both run = record {
   ends = ends_more T (command_task command a) part a b c k m goes_on other status run.ends;
+  ended = λ is. both (subst (λ (s : SlotState). IsAtEnd s.left) (sym run.other) first, run.ended is);
   second = λ files told no. ap (λ (s : ShelfState). s.slots 1) (run.untouched (none files told no)) ∙ other;
   few = λ files told.
       few_more T (command_task command a) part a b c k m goes_on other files told

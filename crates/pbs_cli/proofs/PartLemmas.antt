@@ -17,7 +17,7 @@ use Rattle.pbs_cli.specs.Answers.{Answer, refused, Traces, OnOutcome, Simulates,
 use Rattle.pbs_cli.specs.Answers.{command_task}
 use Rattle.pbs_cli.specs.Parts.{WritesText, EndsAlone, EndsSim, Finishes, Answered, OnGiven, run_answers, trace_answers}
 use Rattle.pbs_cli.specs.Parts.{sim_answers}
-use Rattle.pbs_cli.proofs.AnswerLemmas.{refuses, wrote_more, cut_more}
+use Rattle.pbs_cli.proofs.AnswerLemmas.{refuses, refused_not_accepted, wrote_more, cut_more}
 use Rattle.pbs_cli.proofs.RunLemmas.{run_finishes}
 use Rattle.pbs_cli.proofs.CommandLemmas.{IsPart, ends_more, took_little, took_few}
 use Rattle.pbs_cli.specs.declared.status.Status.{Status}
@@ -124,6 +124,8 @@ sim_refused text name r b k m status is w = record {
   ends = by_status status (refuses only r k m status refl w);
   few = λ files told. took_few (content_of files name) (b.slots 1) (b.slots 1) refl;
   untouched = λ refused. refl;
+  other = refl;
+  ended = λ accepted. absurd (refused_not_accepted k m (refusal_line r) status w accepted);
 }
   where
     only : Answer → Type 0
@@ -146,4 +148,6 @@ sim_no_memory text name b k = record {
   ends = (refl, λ files told. took_little (content_of files name) (b.slots 1) (b.slots 1) refl);
   few = λ files told. took_few (content_of files name) (b.slots 1) (b.slots 1) refl;
   untouched = λ refused. refl;
+  other = refl;
+  ended = λ accepted. absurd (cc);
 }

@@ -2,7 +2,7 @@
 use Rattle.std.proofs.Common.{◌≡◌, ◌≤◌, ℕ, List, [], ◌++◌, Option, Some, None, Result, Ok, Err}
 use Rattle.std.proofs.Common.{refl, sym, ap, subst, ◌∙◌, inl, inr, arith, append_assoc, append-nil}
 use Rattle.std.specs.Option.{ForSome}
-use Rattle.std.specs.Io.KnownBytes.{append_known}
+use Rattle.std.specs.Io.KnownBytes.{append_known, IsAtEnd}
 use Rattle.pbs_base.specs.Outside.{ShelfState, SinkState, WritesFront}
 use Rattle.pbs_base.specs.Refusal.{refusal_line}
 use Rattle.pbs_base.specs.declared.refusal.Refusal.{Refusal}
@@ -14,6 +14,7 @@ use Rattle.net_trace.specs.declared.fail.RunFail.{RunFail}
 use Rattle.net_trace.specs.declared.fail.RunFail.TheVariants as fails
 use Rattle.pbs_cli.specs.Answers.{ended, Wrote, CutShort, Ends}
 use Rattle.pbs_cli.specs.Parts.{WritesText, Finishes, Answered, OnGiven, run_answers}
+use Rattle.pbs_cli.proofs.AnswerLemmas.{refused_not_accepted}
 use Rattle.pbs_cli.specs.declared.status.Status.{Status}
 use Rattle.pbs_cli.specs.declared.status.Status.TheVariants.{Accepted, Refused, Usage, ReadFault, WriteFault, Memory}
 
@@ -120,3 +121,13 @@ module _ {A : Type 0} (told : Option A) (gives : A → Outcome → Type 0) (text
   run_finishes (Err fails.WriteFault) status w later is = at_once Answers m n WriteFault status is
       (w.0, λ a told_is. run_cut (gives a) k m (w.1 a told_is))
   run_finishes (Err fails.Memory) status w later is = at_once Answers m n Memory status is w
+
+-- a run that is accepted read the trace to its end
+pub run_ended : {A : Type 0} (task : RunTask A) (b c : ShelfState) (k m n : SinkState) (run : Result (Unit {0}) RunFail)
+    (end : Status) → RunEnds task b c k m run → Finishes m n run end → end ≡ Accepted → IsAtEnd (c.slots 1).left
+run_ended task b c k m n (Ok done) end ends finish is = ends.0
+run_ended task b c k m n (Err (fails.Refused r)) end ends finish is =
+    absurd (refused_not_accepted m n (refusal_line r) end finish is)
+run_ended task b c k m n (Err fails.ReadFault) end ends finish is = absurd (let e = finish.0 in cc)
+run_ended task b c k m n (Err fails.WriteFault) end ends finish is = absurd (let e = finish.0 in cc)
+run_ended task b c k m n (Err fails.Memory) end ends finish is = absurd (let e = finish.0 in cc)

@@ -7,7 +7,7 @@ use Rattle.pbs_cli.specs.Words.{Command}
 use Rattle.pbs_cli.specs.Words as words
 use Rattle.pbs_cli.specs.Status.{code_of}
 use Rattle.net_trace.specs.Taken.{TakesAtMost}
-use Rattle.pbs_cli.specs.Answers.{Wrote, Defines, NeedsNoSecond, trace_of}
+use Rattle.pbs_cli.specs.Answers.{Wrote, Defines, NeedsNoSecond, ReadToEnd, trace_of}
 use Rattle.pbs_cli.specs.Parts.{EndsCommand}
 use Rattle.pbs_cli.proofs.CommandLemmas.{took_few}
 use Rattle.pbs_cli.specs.declared.status.Status.{Status}
@@ -62,3 +62,13 @@ second command s n k m status same ends =
     let P : ShelfState → Type 0 = λ x.
     ForSome s.files (λ files. NeedsNoSecond command files → x.slots 1 ≡ s.slots 1) in
     kept P command s n k m status same ends (λ files told none. refl) (λ e. e.second)
+
+-- an accepted command has read its files to their ends
+pub read_to_end : (command : Command) (s n : ShelfState) (k m : SinkState) (status : Status)
+    → (status ≢ Usage → EndsCommand command s n k m status) → code_of status ≡ 0 → ReadToEnd command n
+read_to_end command s n k m Accepted ends is = (ends (λ bad. cc)).ended refl
+read_to_end command s n k m Refused ends is = absurd (cc)
+read_to_end command s n k m Usage ends is = absurd (cc)
+read_to_end command s n k m ReadFault ends is = absurd (cc)
+read_to_end command s n k m WriteFault ends is = absurd (cc)
+read_to_end command s n k m Memory ends is = absurd (cc)

@@ -1,7 +1,7 @@
 -- What each command answers over the named files, and how a call may end.
 use Rattle.std.specs.Prelude.{◌≡◌, ◌⊎◌, ◌++◌, ℕ, true, List, [], codes, Option, Some, None, ⊤}
 use Rattle.std.specs.Option.{ForSome}
-use Rattle.std.specs.Io.KnownBytes.{append_known}
+use Rattle.std.specs.Io.KnownBytes.{append_known, IsAtEnd}
 use Rattle.pbs_base.specs.Outside.{ShelfState, SinkState, NamedFile, Rose, content_of, has_file}
 use Rattle.pbs_base.specs.Refusal.{refusal_line}
 use Rattle.pbs_base.specs.declared.refusal.Refusal.{Refusal}
@@ -98,6 +98,14 @@ HasNeeded (Sim netlist trace) files =
 HasNeeded (Trace spec trace) files =
     (has_file files spec ≡ true) × ((s : Spec) → IsRun (content_of files spec) s → has_file files trace ≡ true)
 HasNeeded Usage files = ⊤
+
+-- nothing is left to read of the first file, nor of the trace where the command has one
+abbrev pub ReadToEnd : Command → ShelfState → Type 0
+ReadToEnd (Check spec) shelf = IsAtEnd (shelf.slots 0).left
+ReadToEnd (Compile spec) shelf = IsAtEnd (shelf.slots 0).left
+ReadToEnd (Sim netlist trace) shelf = IsAtEnd (shelf.slots 0).left × IsAtEnd (shelf.slots 1).left
+ReadToEnd (Trace spec trace) shelf = IsAtEnd (shelf.slots 0).left × IsAtEnd (shelf.slots 1).left
+ReadToEnd Usage shelf = ⊤
 
 -- ---- the trace of a command
 

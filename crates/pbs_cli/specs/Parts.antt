@@ -1,7 +1,7 @@
 -- What the parts of a command give.
 use Rattle.std.specs.Prelude.{◌≡◌, ℕ, ◌+◌, ◌<◌, true, List, length, Result, Ok, Err, ⊤}
 use Rattle.std.specs.Option.{ForSome}
-use Rattle.std.specs.Io.KnownBytes.{append_known}
+use Rattle.std.specs.Io.KnownBytes.{append_known, IsAtEnd}
 use Rattle.pbs_base.specs.Outside.{ShelfState, SinkState, NamedFile, GoesOn, Rose, WritesFront, content_of, has_file}
 use Rattle.pbs_base.specs.Refusal.{refusal_line}
 use Rattle.pbs_base.specs.declared.refusal.Refusal.{Refusal}
@@ -19,7 +19,7 @@ use Rattle.pbs_engine.specs.Outcomes.{FiredRows}
 use Rattle.pbs_engine.specs.Load.{HasFailed}
 use Rattle.pbs_cli.specs.Words.{Command}
 use Rattle.pbs_cli.specs.Answers.{Answer, ended, Traces, Simulates, SimulatedRows, Wrote, CutShort, Task, Ends}
-use Rattle.pbs_cli.specs.Answers.{NeedsNoSecond, trace_of, command_task}
+use Rattle.pbs_cli.specs.Answers.{NeedsNoSecond, ReadToEnd, trace_of, command_task}
 use Rattle.pbs_cli.specs.declared.first.First.{First}
 use Rattle.pbs_cli.specs.declared.first.First.TheVariants as first
 use Rattle.pbs_cli.specs.declared.status.Status.{Status}
@@ -42,12 +42,20 @@ FirstGives refuses before now name (first.Refused r) =
 FirstGives refuses before now name first.Fault = HasFailed before now name
 FirstGives refuses before now name first.Memory = ⊤
 
+-- a text was read to its end
+abbrev pub FirstEnds : ShelfState → First → Type 0
+FirstEnds now (first.Text bytes) = IsAtEnd (now.slots 0).left
+FirstEnds now (first.Refused r) = ⊤
+FirstEnds now first.Fault = ⊤
+FirstEnds now first.Memory = ⊤
+
 -- the named file was read in slot 0, or is refused so for its length
 pub record ReadsFirst (refuses : List ℕ → Refusal → Type 0) (before now : ShelfState) (name : List ℕ) (result : First) :
     Type 0 where
   pub goes_on : GoesOn before now
   pub other : now.slots 1 ≡ before.slots 1
   pub gives : FirstGives refuses before now name result
+  pub ended : FirstEnds now result
 
 -- ---- what is written
 
@@ -114,11 +122,13 @@ sim_answers text name shelf = record {
 
 -- how such a call ends
 pub record EndsRun (task : Task (List NamedFile)) (refused : Type 0) (shelf shelf_now : ShelfState)
-    (sink sink_now : SinkState) (status : Status) : Type 0 where
-  pub ends : Ends task shelf shelf_now sink sink_now status
+    (sink sink_now : SinkState) (end : Status) : Type 0 where
+  pub ends : Ends task shelf shelf_now sink sink_now end
   pub few : ForSome task.told (λ told. TakesAtMost 67108865 (task.trace told) (shelf.slots 1) (shelf_now.slots 1))
   -- where the first text is refused, nothing is opened
   pub untouched : refused → shelf_now ≡ shelf
+  pub other : shelf_now.slots 0 ≡ shelf.slots 0
+  pub ended : end ≡ status.Accepted → IsAtEnd (shelf_now.slots 1).left
 
 abbrev pub EndsTrace : List ℕ → List ℕ → ShelfState → ShelfState → SinkState → SinkState → Status → Type 0
 EndsTrace text name shelf shelf_now sink sink_now end =
@@ -131,8 +141,9 @@ EndsSim text name shelf shelf_now sink sink_now end =
 -- ---- whole commands
 
 pub record EndsCommand (command : Command) (shelf shelf_now : ShelfState) (sink sink_now : SinkState)
-    (status : Status) : Type 0 where
-  pub ends : Ends (command_task command shelf) shelf shelf_now sink sink_now status
+    (end : Status) : Type 0 where
+  pub ends : Ends (command_task command shelf) shelf shelf_now sink sink_now end
+  pub ended : end ≡ status.Accepted → ReadToEnd command shelf_now
   pub second : ForSome shelf.files (λ files. NeedsNoSecond command files → shelf_now.slots 1 ≡ shelf.slots 1)
   pub few : ForSome shelf.files (λ files.
       TakesAtMost 67108865 (trace_of command files) (shelf.slots 1) (shelf_now.slots 1))

@@ -6,7 +6,7 @@ ghost use Rattle.pbs_cli.specs.Words.{command_of, texts, Usage};
 ghost use Rattle.net_trace.specs.Endings.{WroteTaken};
 ghost use Rattle.net_trace.specs.Taken.{Stops, TakesAtMost, TakesLittle};
 ghost use Rattle.pbs_cli.specs.Answers.{Wrote, CutShort, Defines, NeedsFiles, NeedsNoSecond, HasNeeded};
-ghost use Rattle.pbs_cli.specs.Answers.{DueRows, trace_of};
+ghost use Rattle.pbs_cli.specs.Answers.{DueRows, ReadToEnd, trace_of};
 ghost use Rattle.pbs_cli.specs.Parts.{EndsCommand};
 ghost use Rattle.pbs_cli.specs.declared.status.Status.TheVariants as status;
 
@@ -27,6 +27,9 @@ pub fn run<S: Shelf, K: Sink>(alloc: Global, words: &[String], shelf: &mut S, ou
     // 0 and 1: the defined text was written whole, and this is its status.
     ensures answered { result < 2 → ForSome (S.state shelf.old).files (λ files.
         Wrote (Defines (command_of (texts words.now)) files) result (K.state out.old) (K.state out.new)) }
+
+    // 0: the first file was read to its end, and the trace where the command has one.
+    ensures ended { result ≡ 0 → ReadToEnd (command_of (texts words.now)) (S.state shelf.new) }
 
     // 2: exactly for words of no command. Nothing was opened or written.
     ensures usage { (result ≡ 2) ↔ (command_of (texts words.now) ≡ Usage) }

@@ -24,7 +24,7 @@ not_opened e a b slot name opened = record {
 pub load_not_opened : {T E : Type 0} (e : E) (a b : ShelfState) (slot : ℕ) (name : List ℕ) (limit : ℕ)
     → Opens {T = T} a b slot name (Err e) → Loads a b slot name limit (Err Fault)
 load_not_opened e a b slot name limit opened = record
-    { goes_on = opened.goes_on; other = opened.other; gives = not_opened e a b slot name opened }
+    { goes_on = opened.goes_on; other = opened.other; gives = not_opened e a b slot name opened; ended = tt }
 
 pub load_whole : {T E U : Type 0} (x : T) (y : U) (a b c : ShelfState) (slot : ℕ) (name : List ℕ) (limit : ℕ)
     (out : Vec ℕ Global) → Opens {E = E} a b slot name (Ok x) → ReadsAll b c slot limit out.items (Ok y)
@@ -37,6 +37,7 @@ load_whole x y a b c slot name limit out opened read short = record {
     λ files told. (read.gives (content_of files name) (opened_content x a b slot name opened files told)).0,
     short,
   );
+  ended = read.ended;
 }
 
 gives_fail : {T E U : Type 0} (x : T) (a b c : ShelfState) (slot : ℕ) (name : List ℕ) (limit : ℕ) (out : List ℕ)
@@ -57,4 +58,5 @@ load_fails x a b c slot name limit out fail opened read = record {
   goes_on = GoesOn-trans a b c opened.goes_on read.goes_on;
   other = read.other ∙ opened.other;
   gives = gives_fail x a b c slot name limit out fail opened read;
+  ended = tt;
 }

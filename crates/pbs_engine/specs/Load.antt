@@ -1,5 +1,6 @@
 -- What a named file that is read whole gives.
-use Rattle.std.specs.Prelude.{◌≡◌, ◌-◌, ◌≤◌, ◌<◌, ℕ, true, List, length, Result, Ok, Err, Vec, ⊤}
+use Rattle.std.specs.Prelude.{◌≡◌, ◌-◌, ◌≤◌, ◌<◌, ℕ, true, List, length, Result, Ok, Err, OnOk, Vec, ⊤}
+use Rattle.std.specs.Io.KnownBytes.{IsAtEnd}
 use Rattle.std.specs.Option.{ForSome}
 use Rattle.std.specs.declared.alloc.Global.{Global}
 use Rattle.pbs_base.specs.Outside.{ShelfState, GoesOn, Rose, content_of, has_file}
@@ -23,3 +24,4 @@ pub record Loads (before now : ShelfState) (slot : ℕ) (name : List ℕ) (limit
   pub goes_on : GoesOn before now
   pub other : now.slots (1 - slot) ≡ before.slots (1 - slot)
   pub gives : LoadGives before now name limit result
+  pub ended : OnOk result (IsAtEnd (now.slots slot).left)

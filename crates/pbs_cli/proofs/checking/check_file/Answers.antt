@@ -1,7 +1,8 @@
 use Rattle.std.proofs.Common.{◌≡◌, subst, sym, refl}
+use Rattle.pbs_base.specs.Refusal.{refusal_line}
 use Rattle.pbs_cli.specs.Words.{Check}
 use Rattle.pbs_cli.specs.Answers.{Answer, refused, Checks, OnBroken}
-use Rattle.pbs_cli.proofs.AnswerLemmas.{refuses}
+use Rattle.pbs_cli.proofs.AnswerLemmas.{refuses, refused_not_accepted}
 use Rattle.pbs_cli.proofs.CommandLemmas.{settled, failed, no_memory}
 use Rattle.pbs_cli.proofs.checking.check_file.Goals as goal
 
@@ -9,7 +10,7 @@ pub returns-in-Text : goal.returns-in-Text
 returns-in-Text g c =
     settled (Check c.args.spec.now) (Checks c.in-Text.bytes.items) (g.S.Shelf.state c.args.shelf.now)
     (g.S.Shelf.state c.read_spec.new.shelf) (g.K.Sink.state c.args.out.now) (g.K.Sink.state c.check_text.new.out)
-    c.check_text.result c.in-Text.ensures.other
+    c.check_text.result c.in-Text.ensures.other (λ _. c.in-Text.ensures.ended)
     (λ files told answer is. subst (λ l. Checks l answer) (c.in-Text.ensures.gives files told) is)
     (rw c.as_slice.ensures.value at c.check_text.ensures)
 
@@ -18,6 +19,8 @@ returns-in-Refused g c =
     let one : Answer → Type 0 = λ answer. answer ≡ refused c.in-Refused.refusal in
     settled (Check c.args.spec.now) one (g.S.Shelf.state c.args.shelf.now) (g.S.Shelf.state c.read_spec.new.shelf)
     (g.K.Sink.state c.args.out.now) (g.K.Sink.state c.refuse.new.out) c.refuse.result c.in-Refused.ensures.other
+    (λ is. absurd (refused_not_accepted (g.K.Sink.state c.args.out.now) (g.K.Sink.state c.refuse.new.out)
+    (refusal_line c.in-Refused.refusal) c.refuse.result c.refuse.ensures is))
     (λ files told answer is. subst (Checks _) (sym is) (OnBroken (c.in-Refused.ensures.gives files told)))
     (refuses one c.in-Refused.refusal (g.K.Sink.state c.args.out.now) (g.K.Sink.state c.refuse.new.out)
     c.refuse.result refl c.refuse.ensures)

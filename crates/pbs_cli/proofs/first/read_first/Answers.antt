@@ -11,4 +11,5 @@ returns-in-Err-TooLong g c =
       goes_on = loaded.goes_on;
       other = loaded.other;
       gives = λ files told. (loaded.gives files told, c.too_long.ensures);
+      ended = tt;
     }

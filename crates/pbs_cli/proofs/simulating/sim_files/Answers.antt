@@ -1,10 +1,11 @@
 use Rattle.std.proofs.Common.{◌≡◌, subst, sym, refl}
+use Rattle.pbs_base.specs.Refusal.{refusal_line}
 use Rattle.pbs_base.specs.declared.refusal.Refusal.{Refusal}
 use Rattle.vlog_text.specs.Reading.{IsRefusedBy}
 use Rattle.pbs_cli.specs.Words.{Sim}
 use Rattle.pbs_cli.specs.Answers.{Answer, refused, Defines, OnBadNetlist}
 use Rattle.pbs_cli.specs.Parts.{sim_answers}
-use Rattle.pbs_cli.proofs.AnswerLemmas.{refuses}
+use Rattle.pbs_cli.proofs.AnswerLemmas.{refuses, refused_not_accepted}
 use Rattle.pbs_cli.proofs.CommandLemmas.{settled, failed, no_memory, went_on}
 use Rattle.pbs_cli.proofs.PartLemmas.{sim_command}
 use Rattle.pbs_cli.proofs.simulating.sim_files.Goals as goal
@@ -21,6 +22,7 @@ returns-in-Text g c =
     (sim_command c.args.netlist.now c.args.name.now text (g.S.Shelf.state c.args.shelf.now)
     (g.S.Shelf.state c.read_verilog.new.shelf) read.goes_on read.gives)
     (λ files told none. (none.0, subst (λ l. IsRefusedBy l none.0) (sym (read.gives files told)) none.1))
+    read.ended (λ both. both)
     (rw c.as_slice.ensures.value at c.sim_text.ensures)
 
 pub returns-in-Refused : goal.returns-in-Refused
@@ -29,6 +31,8 @@ returns-in-Refused g c =
     let command = Sim c.args.netlist.now c.args.name.now in
     settled command one (g.S.Shelf.state c.args.shelf.now) (g.S.Shelf.state c.read_verilog.new.shelf)
     (g.K.Sink.state c.args.out.now) (g.K.Sink.state c.refuse.new.out) c.refuse.result c.in-Refused.ensures.other
+    (λ is. absurd (refused_not_accepted (g.K.Sink.state c.args.out.now) (g.K.Sink.state c.refuse.new.out)
+    (refusal_line c.in-Refused.refusal) c.refuse.result c.refuse.ensures is))
     (λ files told answer is. subst (Defines command files) (sym is)
     (OnBadNetlist (c.in-Refused.ensures.gives files told)))
     (refuses one c.in-Refused.refusal (g.K.Sink.state c.args.out.now) (g.K.Sink.state c.refuse.new.out)

@@ -1,3 +1,5 @@
+use Rattle.net_trace.specs.Endings.{net_task}
+use Rattle.pbs_cli.proofs.RunLemmas.{run_ended}
 use Rattle.pbs_cli.proofs.PartLemmas.{simulated}
 use Rattle.pbs_cli.proofs.simulating.sim_net.Goals as goal
 
@@ -11,4 +13,9 @@ returns g c =
           c.finish.result run.ends run.later c.finish.ensures;
       few = run.few;
       untouched = λ refused. absurd (c.one_answer.ensures.apart _ _ _ c.requires refused.1);
+      other = run.other;
+      ended = run_ended (net_task c.args.net.now c.args.name.now (g.S.Shelf.state c.args.shelf.now))
+          (g.S.Shelf.state c.args.shelf.now) (g.S.Shelf.state c.simulate-run.new.shelf) (g.K.Sink.state c.args.out.now)
+          (g.K.Sink.state c.simulate-run.new.sink) (g.K.Sink.state c.finish.new.out) c.simulate-run.result
+          c.finish.result run.ends c.finish.ensures;
     }

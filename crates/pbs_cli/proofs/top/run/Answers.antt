@@ -1,5 +1,5 @@
 use Rattle.std.proofs.Common.{ap}
-use Rattle.pbs_cli.proofs.TopLemmas.{complete, few, second}
+use Rattle.pbs_cli.proofs.TopLemmas.{complete, few, read_to_end, second}
 use Rattle.pbs_cli.proofs.top.run.Goals as goal
 
 pub returns-clause-complete : goal.returns-clause-complete
@@ -15,3 +15,6 @@ pub returns-clause-second : goal.returns-clause-second
 returns-clause-second g c =
     second _ _ _ _ _ c.perform.result (λ is. ap g.S.Shelf.state (c.perform.ensures.untouched is).0)
     c.perform.ensures.ends
+
+pub returns-clause-ended : goal.returns-clause-ended
+returns-clause-ended g c = rw c.code.ensures (read_to_end _ _ _ _ _ c.perform.result c.perform.ensures.ends)

@@ -1,4 +1,5 @@
 use Rattle.std.proofs.Common.{◌≡◌, subst, sym, refl}
+use Rattle.pbs_base.specs.Refusal.{refusal_line}
 use Rattle.pbs_base.specs.declared.refusal.Refusal.{Refusal}
 use Rattle.pbs_engine.specs.Accepted.{IsNotRun, Broken}
 use Rattle.net_trace.specs.Outcomes as run
@@ -6,7 +7,7 @@ use Rattle.pbs_engine.specs.Outcomes as outcomes
 use Rattle.pbs_cli.specs.Words.{Trace}
 use Rattle.pbs_cli.specs.Answers.{Answer, refused, Defines, OnOutcome}
 use Rattle.pbs_cli.specs.Parts.{trace_answers}
-use Rattle.pbs_cli.proofs.AnswerLemmas.{refuses}
+use Rattle.pbs_cli.proofs.AnswerLemmas.{refuses, refused_not_accepted}
 use Rattle.pbs_cli.proofs.CommandLemmas.{settled, failed, no_memory, went_on}
 use Rattle.pbs_cli.proofs.PartLemmas.{trace_command}
 use Rattle.pbs_cli.proofs.tracing.trace_files.Goals as goal
@@ -23,6 +24,7 @@ returns-in-Text g c =
     (trace_command c.args.spec.now c.args.name.now text (g.S.Shelf.state c.args.shelf.now)
     (g.S.Shelf.state c.read_spec.new.shelf) read.goes_on read.gives)
     (λ files told none. (none.0, subst (λ l. IsNotRun l none.0) (sym (read.gives files told)) none.1))
+    read.ended (λ both. both)
     (rw c.as_slice.ensures.value at c.trace_text.ensures)
 
 pub returns-in-Refused : goal.returns-in-Refused
@@ -31,6 +33,8 @@ returns-in-Refused g c =
     let command = Trace c.args.spec.now c.args.name.now in
     settled command one (g.S.Shelf.state c.args.shelf.now) (g.S.Shelf.state c.read_spec.new.shelf)
     (g.K.Sink.state c.args.out.now) (g.K.Sink.state c.refuse.new.out) c.refuse.result c.in-Refused.ensures.other
+    (λ is. absurd (refused_not_accepted (g.K.Sink.state c.args.out.now) (g.K.Sink.state c.refuse.new.out)
+    (refusal_line c.in-Refused.refusal) c.refuse.result c.refuse.ensures is))
     (λ files told answer is. subst (Defines command files) (sym is)
     (OnOutcome (run.refused c.in-Refused.refusal)
     (outcomes.OfRefused (Broken (c.in-Refused.ensures.gives files told)))))
