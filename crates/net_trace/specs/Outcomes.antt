@@ -3,7 +3,7 @@ use Rattle.std.specs.Prelude.{◌≡◌, ℕ, suc, List, [], ◌++◌, length, m
 use Rattle.pbs_base.specs.declared.refusal.Refusal.{Refusal}
 use Rattle.net_core.specs.declared.netlist.Output.{Output}
 use Rattle.net_core.specs.Rows.{Row}
-use Rattle.net_core.specs.Circuits.{Circuit}
+use Rattle.net_core.specs.Circuits.{Circuit, output_names}
 use Rattle.net_core.specs.Runs.{output_value}
 use Rattle.net_eval.specs.Simulated.{IsZeroRun}
 use Rattle.trace_text.specs.Reports.{end_line, rows_text}
