@@ -14,7 +14,7 @@ use crate::fail::EngineFail;
 use crate::front::{Found, find};
 use net_core::Netlist;
 use pbs_ast::{Spec, Tree, TreeKind};
-use pbs_base::{Memory, Refusal, Span, Subject};
+use pbs_base::{Memory, Names, Refusal, Span, Subject};
 use pbs_check::laws::{declared_once, within_limits};
 use pbs_controller::build_controller;
 use pbs_rules::{action_words, input_words};
