@@ -4,7 +4,7 @@ use Rattle.net_core.specs.declared.netlist.Output.{Output}
 use Rattle.net_trace.proofs.WordLists.{outputs_differ, few_found}
 use Rattle.net_trace.proofs.names.port_names.Goals as goal
 
-pub from_words-requires : goal.names_of-requires
+pub from_words-requires : goal.from_words-requires
 from_words-requires c =
     let words = c.as_slice.ensures.value
     ∙ (c.in_ok-words.ensures ∙ ap (map (λ (o : Output). o.name)) c.outputs.ensures) in
