@@ -5,9 +5,9 @@ ghost use Rattle.pbs_derive.specs.Tables.{entry, at, joint, throughout, aborted}
 use pbs_base::Listed;
 
 /// For a run of n vectors: a row for each start, from n down, with an entry for each end.
-pub type Grid = Listed<Listed<bool>>;
+pub(crate) type Grid = Listed<Listed<bool>>;
 
-pub fn entry(row: &Listed<bool>, j: usize) -> bool
+pub(crate) fn entry(row: &Listed<bool>, j: usize) -> bool
     ensures { result ≡ entry row.now j }
 {
     match row.get(j) {
@@ -17,7 +17,7 @@ pub fn entry(row: &Listed<bool>, j: usize) -> bool
 }
 
 /// The entry of the stretch from `i` to `j`.
-pub fn at(grid: &Grid, n: usize, i: usize, j: usize) -> bool
+pub(crate) fn at(grid: &Grid, n: usize, i: usize, j: usize) -> bool
     requires { i ≤ n }
     ensures { result ≡ at n grid.now i j }
 {
@@ -28,7 +28,7 @@ pub fn at(grid: &Grid, n: usize, i: usize, j: usize) -> bool
 }
 
 /// Whether the left grid leads from `i` to some position from `k` on, and the right one from there to `j`.
-pub fn joint(left: &Grid, right: &Grid, n: usize, k: usize, i: usize, j: usize) -> bool
+pub(crate) fn joint(left: &Grid, right: &Grid, n: usize, k: usize, i: usize, j: usize) -> bool
     requires start { i ≤ n }
     requires end { j ≤ n }
     requires room { n < 2 ^ 62 }
@@ -43,7 +43,7 @@ pub fn joint(left: &Grid, right: &Grid, n: usize, k: usize, i: usize, j: usize) 
 }
 
 /// Whether each of the entries from `i` up to `j` is true.
-pub fn throughout(truths: &Listed<bool>, i: usize, j: usize) -> bool
+pub(crate) fn throughout(truths: &Listed<bool>, i: usize, j: usize) -> bool
     ensures { result ≡ throughout truths.now i j }
 {
     for m in i..j {
@@ -56,7 +56,7 @@ pub fn throughout(truths: &Listed<bool>, i: usize, j: usize) -> bool
 
 /// What the body's grid tells where no position up to `j` is the abort position, and else what the after part's grid
 /// tells from the abort position on.
-pub fn aborted(
+pub(crate) fn aborted(
     trap: &Grid,
     alive: &Grid,
     body: &Grid,

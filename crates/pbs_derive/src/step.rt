@@ -122,7 +122,7 @@ fn alive_grid(alloc: Global, step: &Step, own: &Grid, n: usize) -> Result<Grid, 
     Ok(grid)
 }
 
-pub fn step_tables(alloc: Global, step: &Step, n: usize) -> Result<Tables, Memory>
+pub(crate) fn step_tables(alloc: Global, step: &Step, n: usize) -> Result<Tables, Memory>
     requires room { n < 2 ^ 62 }
     ensures { IfOk result (IsStep step.now n) }
 {
