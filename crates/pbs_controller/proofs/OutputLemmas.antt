@@ -187,6 +187,7 @@ pub is_controller : (inputs actions : List (List ℕ)) (main : Tree) (empty comp
     → net.inputs ≡ ports_of (codes "i_") inputs → output_names net ≡ ports_of (codes "a_") actions
     → IsController inputs actions main net
 is_controller inputs actions main empty composed net ws built plain in_ports out_ports = record {
+  circuit = built.right;
   inputs_named = in_ports;
   outputs_named = out_ports;
   registers = ap length built.registers ∙ built.circuit.places;

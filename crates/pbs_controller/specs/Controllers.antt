@@ -6,7 +6,7 @@ use Rattle.pbs_ast.specs.Trees.{Tree, has_no_scope}
 use Rattle.pbs_ast.specs.Sound.{node_count, place_count, tree_input_leaves}
 use Rattle.pbs_derive.specs.Derivations.{stands, fires, NoOverlapBelow}
 use Rattle.net_core.specs.Rows.{Row}
-use Rattle.net_core.specs.Circuits.{Circuit, IsBuilt, output_names}
+use Rattle.net_core.specs.Circuits.{Circuit, IsBuilt, IsCircuit, output_names}
 use Rattle.net_core.specs.Building.{gate_input_pins, input_pins}
 use Rattle.net_core.specs.Runs.{IsRun, next_of, output_value}
 use Rattle.pbs_controller.specs.Outputs.{AreUnread}
@@ -21,6 +21,8 @@ pub record ShowsRow (net : Circuit) (main : Tree) (m : ℕ) (v : List Entry) (ro
       → output_value net (rows k) a ≡ fires main (since v k) 0 (length (since v k)) a
 
 pub record IsController (inputs actions : List (List ℕ)) (main : Tree) (net : Circuit) : Type 0 where
+  -- each gate reads earlier gates only, and what is named is there: so each list of entries has its runs
+  pub circuit : IsCircuit net
   -- a port for each input and for each action, in declared order
   pub inputs_named : net.inputs ≡ ports_of (codes "i_") inputs
   pub outputs_named : output_names net ≡ ports_of (codes "a_") actions

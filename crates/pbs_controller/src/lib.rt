@@ -5,4 +5,3 @@ mod build;
 mod ports;
 
 pub use build::build_controller;
-pub use ports::prefixed;

@@ -15,7 +15,7 @@ fn joined_word(alloc: Global, front: &[u8], back: &[u8]) -> Result<Word, Memory>
 }
 
 /// The names with the prefix before each.
-pub fn prefixed(alloc: Global, prefix: &[u8], names: &Names) -> Result<Names, Memory>
+pub(crate) fn prefixed(alloc: Global, prefix: &[u8], names: &Names) -> Result<Names, Memory>
     ensures { IfOk result (λ ports. ports ≡ ports_of prefix.now names.now) }
 {
     let mut ports = Names::new(alloc);
