@@ -4,10 +4,12 @@ use Rattle.std.specs.Prelude.{IfOk, IfErr}
 use Rattle.vlog_text.specs.declared.raw.RawNetlist.{RawNetlist}
 use Rattle.vlog_text.specs.declared.token.Token.{Token}
 use Rattle.vlog_text.specs.Lexing.{tokens}
-use Rattle.vlog_text.specs.Reading.{IsShort}
+use Rattle.vlog_text.specs.Raw.{IsRaw}
+use Rattle.vlog_text.specs.Reading.{IsShort, IsRead}
 use Rattle.vlog_parse.specs.declared.fail.ParseFail.{ParseFail}
 use Rattle.vlog_parse.specs.declared.fail.ParseFail.TheVariants.{Refused, Memory}
 use Rattle.vlog_parse.specs.Parsed.{IsUnreadable, ByToken, ByGrammar, IsReadAs, StopsLexing, StopsReading, Parses}
+use Rattle.vlog_parse.proofs.Raws.{read_is_raw}
 
 pub stopped_lexing : (bytes : List ℕ) (e : ParseFail) → IsShort bytes → StopsLexing bytes e → Parses bytes (Err e)
 stopped_lexing bytes Memory short h = tt
@@ -15,12 +17,14 @@ stopped_lexing bytes (Refused r) short h = subst (IsUnreadable bytes) (sym h.1) 
 
 found_all : (bytes : List ℕ) (ts : List Token) (r : Result RawNetlist ParseFail) → IsShort bytes → tokens bytes ≡ Ok ts
     → IfOk r (λ raw. IsReadAs bytes ts raw) → IfErr r (λ e. StopsReading (length bytes) ts e) → Parses bytes r
-found_all bytes ts (Ok raw) short lexed h k = record {
-  phrase = h.phrase;
-  is_read = record { short = short; found = ts; found_is = lexed; text = h.text };
-  raw_is = h.raw_is;
-  is_raw = h.is_raw;
-}
+found_all bytes ts (Ok raw) short lexed h k =
+    let read : IsRead bytes h.phrase = record { short = short; found = ts; found_is = lexed; text = h.text } in
+    record {
+      phrase = h.phrase;
+      is_read = read;
+      raw_is = h.raw_is;
+      is_raw = subst IsRaw (sym h.raw_is) (read_is_raw bytes h.phrase read);
+    }
 found_all bytes ts (Err Memory) short lexed h k = tt
 found_all bytes ts (Err (Refused r)) short lexed h k =
     subst (IsUnreadable bytes) (sym k.1) (ByGrammar short ts lexed k.0 k.2)

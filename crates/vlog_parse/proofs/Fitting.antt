@@ -296,14 +296,15 @@ pub fit_start : Fitting nothing (state.OfFixed fixed.WantsModule)
 fit_start = (λ n r e. absurd cc, (λ n g e. absurd cc, λ n g e. absurd cc))
 
 -- what was found at the end is a raw netlist
-pub fit_whole : (f : Found) (s : State) (raw : RawNetlist) → Fitting f s → is_whole s ≡ true → IsFound f raw → IsRaw raw
-fit_whole f s raw h e found =
+pub fit_whole : (f : Found) (s : State) (raw : RawNetlist) → Fitting f s → is_whole s ≡ true → IsFound f raw
+    → length raw.gates < 4294967295 → length raw.regs < 4294967295 → IsRaw raw
+fit_whole f s raw h e found few_gates few_regs =
     let d = at_end s f.gates h.1 e in
     let g : f.gates ≡ raw.gates = sym found.gates in
     let q = subst Driven g d in
     record {
-      gates_few = found.gates_few;
-      regs_few = found.regs_few;
+      gates_few = few_gates;
+      regs_few = few_regs;
       gates_fit = q.0;
       last = q.1;
       operands = subst RegsFit (sym found.regs) h.0;

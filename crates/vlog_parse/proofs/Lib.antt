@@ -11,4 +11,6 @@ pub mod Simulates
 pub mod Reaching
 pub mod Fits
 pub mod Fitting
+pub mod Counts
+pub mod Raws
 pub mod Answering

@@ -4,7 +4,7 @@ use Rattle.std.proofs.Common.{refl, sym}
 use Rattle.std.proofs.Common.{ap, subst, ◌∙◌, ◌+◌, take, drop, get_or, append_assoc}
 use Rattle.std.proofs.lemmas.List.{take_more, take_all, take-append-drop}
 use Rattle.std.proofs.Common.{Result, Ok, Err}
-use Rattle.std.specs.Prelude.{IfOk, IfSome}
+use Rattle.std.specs.Prelude.{IfOk}
 use Rattle.std.proofs.lemmas.Bool.{false≢true}
 use Rattle.vlog_text.specs.declared.raw.RawNetlist.{RawNetlist}
 use Rattle.vlog_text.specs.declared.token.Token.{Token}
@@ -24,14 +24,12 @@ use Rattle.vlog_parse.proofs.Walks.{walk-then}
 use Rattle.vlog_parse.proofs.Exact.{walked_text, leaves_at, leaves_end}
 use Rattle.vlog_parse.proofs.Standing.{StandsAt, AtStart, AtEnd, Follows, whole_found}
 use Rattle.vlog_parse.proofs.Simulates.{sim}
-use Rattle.vlog_parse.proofs.Fitting.{Fitting, fit_start, fit_next, fit_whole}
 
 -- the machine has taken these tokens
 pub record Reached (bytes : List ℕ) (taken : List Token) (f : Found) (s : State) : Type 0 where
   pub place : Place
   pub walked : walk Start taken ≡ Some place
   pub stands : StandsAt bytes f s place
-  pub fitting : Fitting f s
 
 pub reached_start : (bytes : List ℕ) (f : Found) → f ≡ nothing
     → Reached bytes [] f (state.OfFixed fixed.WantsModule)
@@ -39,12 +37,7 @@ reached_start bytes f e = record {
   place = Start;
   walked = refl;
   stands = subst (λ x. StandsAt bytes x (state.OfFixed fixed.WantsModule) Start) (sym e) AtStart;
-  fitting = subst (λ x. Fitting x (state.OfFixed fixed.WantsModule)) (sym e) fit_start;
 }
-
-fitted : (n : Next) (s : State) (f : Found) → IfSome n (λ x. Fitting x.1 x.0) → IsNext n (Some s) f → Fitting f s
-fitted None s f h i = absurd i
-fitted (Some x) s f h i = subst (λ g. Fitting g s) (sym i.1) (subst (λ t. Fitting x.1 t) (sym i.0) h)
 
 stepped : (bytes : List ℕ) (o : Option Place) (n : Next) (s : State) (f : Found) → Follows bytes o n
     → IsNext n (Some s) f → (q : Place) × (o ≡ Some q) × StandsAt bytes f s q
@@ -70,7 +63,6 @@ reached_more bytes taken f s t g r h i =
       place = x.0;
       walked = walk-then taken t h.place x.0 Start h.walked x.1;
       stands = x.2;
-      fitting = fitted (next bytes s f t.kind t.span) r g (fit_next bytes s f t.kind t.span h.fitting) i;
     }
 
 pub reached_stop : (bytes : List ℕ) (end : ℕ) (taken rest : List Token) (f : Found) (s : State) (t : Token) (g : Found)
@@ -110,7 +102,6 @@ reached_whole bytes ts f s raw h e found =
       raw_is = same raw (raw_of bytes w.0) name (found.ports ∙ ap (λ x. x.ports) w.2)
           (found.decls ∙ ap (λ x. x.decls) w.2) (found.gates ∙ ap (λ x. x.gates) w.2)
           (found.regs ∙ ap (λ x. x.regs) w.2);
-      is_raw = fit_whole f s raw h.fitting e found;
     }
   where
     same : (a b : RawNetlist) → a.name ≡ b.name → a.ports ≡ b.ports → a.decls ≡ b.decls → a.gates ≡ b.gates

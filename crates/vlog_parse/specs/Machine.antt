@@ -1,7 +1,7 @@
 -- The step of the machine that reads tokens, on what it has found.
 use Rattle.std.specs.Prelude.{ℕ, Bool, true, false, nat_lt, if◌then◌else◌, List, [], ◌∷◌, ◌++◌, length, Option, Some}
 use Rattle.std.specs.Prelude.{None}
-use Rattle.std.specs.Prelude.{◌≡◌, ◌<◌, option_map}
+use Rattle.std.specs.Prelude.{◌≡◌, option_map}
 use Rattle.pbs_base.specs.declared.refusal.Span.{Span}
 use Rattle.net_core.specs.declared.gate.GateKind.{GateKind}
 use Rattle.net_core.specs.declared.gate.GateKind.TheVariants as gate
@@ -346,5 +346,3 @@ pub record IsFound (f : Found) (raw : RawNetlist) : Type 0 where
   pub decls : raw.decls ≡ f.decls
   pub gates : raw.gates ≡ f.gates
   pub regs : raw.regs ≡ f.regs
-  pub gates_few : length raw.gates < 4294967295
-  pub regs_few : length raw.regs < 4294967295

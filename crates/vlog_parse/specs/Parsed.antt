@@ -43,7 +43,6 @@ pub record IsReadAs (bytes : List ℕ) (ts : List Token) (raw : RawNetlist) : Ty
   pub phrase : TextPhrase
   pub text : IsText ts phrase
   pub raw_is : raw ≡ raw_of bytes phrase
-  pub is_raw : IsRaw raw
 
 -- rule 3 is broken first at this span, unless memory ran out
 abbrev pub StopsReading : ℕ → List Token → ParseFail → Type 0

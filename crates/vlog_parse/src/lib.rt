@@ -15,4 +15,4 @@ mod units;
 mod words;
 
 pub use fail::ParseFail;
-pub use parse::{one_parse, parse_netlist};
+pub use parse::{one_parse, parse_netlist, read_is_raw};

@@ -3,8 +3,10 @@ ghost use Rattle.std.specs.Prelude.{ℕ, List, ◌≡◌, ◌≤◌, length, IfO
 ghost use Rattle.vlog_parse.specs.declared.fail.ParseFail.TheVariants as answers;
 ghost use Rattle.pbs_base.specs.declared.refusal.Refusal.{Refusal};
 ghost use Rattle.vlog_text.specs.Grammar.{TextPhrase};
+ghost use Rattle.vlog_text.specs.Raw.{IsRaw};
 ghost use Rattle.vlog_text.specs.Reading.{IsRead};
 ghost use Rattle.vlog_text.specs.Refusing.{refusal};
+ghost use Rattle.vlog_text.specs.Trees.{raw_of};
 ghost use Rattle.vlog_parse.specs.Machine as machine;
 ghost use Rattle.vlog_parse.specs.Machine.{IsFound};
 ghost use Rattle.vlog_parse.specs.Parsed.{IsReadAs, IsUnreadable, StopsReading, Parses};
@@ -19,9 +21,6 @@ use vlog_text::{RawNetlist, Token};
 
 /// How many bytes a text may have.
 const MAX_BYTES: usize = 67_108_864;
-
-/// The most gates, and the most registers.
-const MOST: usize = 4_294_967_294;
 
 // Why a text is refused by this rule.
 fn refused(rule: u8, span: Span) -> ParseFail
@@ -67,7 +66,7 @@ fn is_whole(state: State) -> bool
     }
 }
 
-// The netlist that was found. A text has fewer gates and registers than `MOST`.
+// The netlist that was found.
 fn netlist_of(found: Found) -> Result<RawNetlist, ParseFail>
     ensures ok { IfOk result (λ raw. IsFound found raw) }
     ensures err { IfErr result (λ e. e ≡ answers.Memory) }
@@ -79,9 +78,6 @@ fn netlist_of(found: Found) -> Result<RawNetlist, ParseFail>
         gates,
         regs,
     } = found;
-    if gates.len() > MOST || regs.len() > MOST {
-        return Err(ParseFail::Memory);
-    }
     match title {
         Some(name) => Ok(RawNetlist {
             name,
@@ -119,6 +115,11 @@ pub fn one_parse()
     ensures read { (bytes : List ℕ) (p q : TextPhrase) → IsRead bytes p → IsRead bytes q → p ≡ q }
     ensures refused { (bytes : List ℕ) (q r : Refusal) → IsUnreadable bytes q → IsUnreadable bytes r → q ≡ r }
     ensures neither { (bytes : List ℕ) (p : TextPhrase) (r : Refusal) → IsRead bytes p → IsUnreadable bytes r → ⊥ }
+{}
+
+/// What a text is read as is a raw netlist, with fewer gates and registers than 2^32 - 1.
+pub fn read_is_raw()
+    ensures { (bytes : List ℕ) (p : TextPhrase) → IsRead bytes p → IsRaw (raw_of bytes p) }
 {}
 
 /// The netlist of names that the text is, or the first broken rule of 1 to 3.
