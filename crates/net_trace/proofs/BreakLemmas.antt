@@ -1,13 +1,13 @@
 -- A refusal of a row begins behind the bytes that were read before it came.
 use Rattle.std.proofs.Common.{◌≡◌, ◌≤◌, ◌+◌, ◌-◌, ℕ, zero, suc, Bool, true, false, nat_eq, nat_lt, nat_le, ◌&&◌}
-use Rattle.std.proofs.Common.{List, [], ◌∷◌, ◌++◌, length, refl, sym, ap, subst, ◌∙◌, length-append, arith, if◌then◌else◌}
-use Rattle.std.proofs.Common.{append_assoc}
+use Rattle.std.proofs.Common.{List, [], ◌∷◌, ◌++◌, length, refl, sym, ap, subst, ◌∙◌, arith}
+use Rattle.std.proofs.Common.{append_assoc, length-append, if◌then◌else◌}
 use Rattle.std.proofs.lemmas.Bool.Decides.{nat_tests}
 use Rattle.pbs_base.specs.declared.refusal.Refusal.{Refusal}
 use Rattle.pbs_base.specs.declared.entry.Entry.{Entry}
 use Rattle.trace_reader.specs.Traces.{Ending, End, Refused}
-use Rattle.trace_reader.specs.Traces.{Found, Good, Wrong, Rows, bare, digits, entry, followed, is_digit, is_good, is_too_long}
-use Rattle.trace_reader.specs.Traces.{lines, refused, right, row, rows, wanted, wrong_row}
+use Rattle.trace_reader.specs.Traces.{Found, Good, Wrong, Rows, bare, digits, entry, followed, is_digit}
+use Rattle.trace_reader.specs.Traces.{is_good, is_too_long, lines, refused, right, row, rows, wanted, wrong_row}
 use Rattle.trace_reader.specs.States.{IsInRow, ReaderState, has_newline, rows_from}
 use Rattle.trace_reader.proofs.LineLemmas.{bare_ended, lines_ended, lines_open}
 use Rattle.trace_reader.proofs.RowLemmas.{right_open}
@@ -105,8 +105,8 @@ open_row order at begun text r low right_is open_line (c ∷ all) e h =
     elsewhere (row order at (c ∷ all)) (rows order (at + length (c ∷ all)) []) r (at + length begun)
     (ap (λ ls. (rows order at ls).ending) (sym one) ∙ h)
     (λ wrong. wrong_start order (c ∷ all) at (at + length begun) r wrong low
-    (let more = subst (λ l. right (length order) begun ≤ right (length order) l) e (right_more (length order) begun text)
-    in omega (arith, right_is)))
+    (let more = subst (λ l. right (length order) begun ≤ right (length order) l) e
+    (right_more (length order) begun text) in omega (arith, right_is)))
     (λ d good end. absurd (not_refused r end))
 
 -- behind the bytes of a begun row that are right, a refusal of the rows of a text begins

@@ -26,7 +26,11 @@ pub no_memory_yet : (net : Circuit) (name : List ℕ) (shelf : ShelfState) (sink
     → RunEnds (net_task net name shelf) shelf shelf sink sink (Err fails.Memory)
 no_memory_yet net name shelf sink = (
   refl,
-  λ files told. record { taken = []; took = Untouched refl; little = λ header behind e none. none_behind header behind e },
+  λ files told. record {
+    taken = [];
+    took = Untouched refl;
+    little = λ header behind e none. none_behind header behind e;
+  },
 )
 
 -- ---- the trace was not opened

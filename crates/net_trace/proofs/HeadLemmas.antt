@@ -111,7 +111,8 @@ header_ends ports s t done piece last used r reads goes_on =
     let behind : drop used piece ≡ c.behind =
     ap (drop used) c.is ∙ drop_line c.line c.behind used (reads.bytes.line ∙ c.long) in
     let found : (rest : List ℕ)
-    → headed (header ports line) (length line) (lines (c.behind ++ rest)) ≡ Traced (rows_from t (drop used piece ++ rest)) =
+    → headed (header ports line) (length line) (lines (c.behind ++ rest))
+    ≡ Traced (rows_from t (drop used piece ++ rest)) =
     λ rest.
     sym (with_header ports done c.line c.behind rest r.open_line c.open_line)
     ∙ (ap (λ p. trace ports (done ++ (p ++ rest))) (sym c.is)
@@ -180,7 +181,9 @@ little_behind (x ∷ done) piece [] behind open_line e = absurd (newline x (ap f
     first (c ∷ l) = c
 
     newline : (x : ℕ) → x ≡ 10 → (b : Bool) → (nat_eq x 10 || b) ≡ false → ⊥
-    newline x e b h = let n : nat_eq x 10 ≡ true = grind (arith, nat_tests) in absurd (let k = ap (λ m. m || b) (sym n) ∙ h in cc)
+    newline x e b h =
+        let n : nat_eq x 10 ≡ true = grind (arith, nat_tests) in
+        absurd (let k = ap (λ m. m || b) (sym n) ∙ h in cc)
 little_behind (x ∷ done) piece (y ∷ line) behind open_line e =
     little_behind done piece line behind (tail_open (nat_eq x 10) (has_newline done) open_line) (ap tail e)
   where

@@ -66,7 +66,8 @@ no_header net sink text r none = record {
 
 -- ---- fronts of outcomes
 
-tail_of : (lines : List ℕ) (count : ℕ) (ending : Ending) → (tail : List ℕ) × (lines ++ tail ≡ (ended lines count ending).lines)
+tail_of : (lines : List ℕ) (count : ℕ) (ending : Ending)
+    → (tail : List ℕ) × (lines ++ tail ≡ (ended lines count ending).lines)
 tail_of lines count End = (end_line count, refl)
 tail_of lines count (Refused r) = ([], append-nil lines)
 
@@ -145,8 +146,8 @@ nothing_written net sink text = record { front = []; written = sym (append_known
 
 -- ---- where reading stops
 
-rows_taken : (net : Circuit) (s : ReaderState) (done : List ℕ) (entries : List Entry) → Read net.inputs s done [] entries
-    → IsInRow s → HasRows net.inputs done entries
+rows_taken : (net : Circuit) (s : ReaderState) (done : List ℕ) (entries : List Entry)
+    → Read net.inputs s done [] entries → IsInRow s → HasRows net.inputs done entries
 rows_taken net s done entries r is = record {
   lines = r.front;
   begun = r.begun;
@@ -156,7 +157,8 @@ rows_taken net s done entries r is = record {
       ∙ (r.runs [] ∙ ap (λ es. Traced (read_of es End)) (append-nil entries));
   unbroken = λ more all refusal traced ends.
       let same = traced_same _ _
-      (sym (ap (λ l. trace net.inputs (l ++ more)) (append-nil done) ∙ traced) ∙ traced_on net.inputs s done [] entries r more) in
+      (sym (ap (λ l. trace net.inputs (l ++ more)) (append-nil done) ∙ traced)
+      ∙ traced_on net.inputs s done [] entries r more) in
       let behind = broken_behind s more refusal is (ap (λ (x : Rows). x.ending) (sym same) ∙ ends) in
       let used = r.used in
       omega arith;

@@ -1,6 +1,6 @@
 -- What becomes of the rows in a piece.
-use Rattle.std.proofs.Common.{◌≡◌, ◌<◌, ◌≤◌, ◌+◌, ℕ, false, List, [], ◌∷◌, ◌++◌, length, drop, take, Some, None, Result, ◌-◌}
-use Rattle.std.proofs.Common.{Ok, Err, refl, sym, ap, subst, ◌∙◌, append-nil, arith}
+use Rattle.std.proofs.Common.{◌≡◌, ◌<◌, ◌≤◌, ◌+◌, ℕ, false, List, [], ◌∷◌, ◌++◌, length, drop, take}
+use Rattle.std.proofs.Common.{Some, None, Result, ◌-◌, Ok, Err, refl, sym, ap, subst, ◌∙◌, append-nil, arith}
 use Rattle.trace_reader.specs.Traces as traces
 use Rattle.std.proofs.lemmas.List.{drop-drop, drop_all, length-drop, take_all}
 use Rattle.pbs_base.specs.Outside.{SinkState}
@@ -154,7 +154,8 @@ pub row_refused : (net : Circuit) (before a b : SinkState) (whole behind : List 
 row_refused net before a b whole behind s t old new used r result p reads refuses =
     cases result (refuses p.entries p.shown)
   where
-    traced : (rest : List ℕ) → trace net.inputs (whole ++ rest) ≡ Traced (record { entries = p.entries; ending = traces.Refused r })
+    traced : (rest : List ℕ)
+        → trace net.inputs (whole ++ rest) ≡ Traced (record { entries = p.entries; ending = traces.Refused r })
     traced rest =
         let n = p.next in
         ap (λ w. trace net.inputs (w ++ rest)) (sym n.whole_is)

@@ -75,7 +75,8 @@ line_due net before a b entries mid new rows result due run shows =
 held_so_far : (net : Circuit) (before a : SinkState) (entries : List Entry) (mid : Report) (rows : ℕ → Row)
     → Due net before entries mid a → IsZeroRun net entries rows
     → HeldUpTo before a (shown_rows net rows (length entries))
-    (row_line (output_names net) (length entries) (output_value net (rows (length entries))) ++ []) (held_bytes mid.held)
+    (row_line (output_names net) (length entries) (output_value net (rows (length entries))) ++ [])
+    (held_bytes mid.held)
 held_so_far net before a entries mid rows due run =
     let passed = due.passed rows run in
     record {

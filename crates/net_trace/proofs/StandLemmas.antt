@@ -1,6 +1,7 @@
 -- How one piece more is read.
 use Rattle.std.proofs.Common.{◌≡◌, ◌≤◌, ◌-◌, ℕ, List, [], ◌++◌, length, take, Option, Some, None}
-use Rattle.std.proofs.Common.{Result, Ok, Err, refl, sym, ap, subst, ◌∙◌, append_assoc, append-nil, length-append, arith}
+use Rattle.std.proofs.Common.{Result, Ok, Err, refl, sym, ap, subst, ◌∙◌, append_assoc, append-nil}
+use Rattle.std.proofs.Common.{length-append, arith}
 use Rattle.std.proofs.lemmas.Option.{same_Some}
 use Rattle.std.proofs.lemmas.List.{length-take}
 use Rattle.std.specs.Io.KnownBytes.{IsAtEnd, prepend_known}
@@ -184,7 +185,8 @@ pub finished : (net : Circuit) (before now : SinkState) (first left left_now : O
 finished net before now first left left_now done (Ok x) taken end same low f = record {
   ends = (
     at_end left left_now same end,
-    λ text told. subst (λ t. Finishes net before t now (Ok x)) (whole_text first left done text taken end told) f.finishes,
+    λ text told.
+        subst (λ t. Finishes net before t now (Ok x)) (whole_text first left done text taken end told) f.finishes,
   );
   rose = λ e. absurd (cc);
   memory = λ e. absurd (cc);

@@ -114,12 +114,13 @@ on_rest rest h = absurd (cc)
 
 good_row : (s t : ReaderState) (piece : List ℕ) (used : ℕ) (row : answers.Row) (e : Entry)
     → ReadsRow s t piece false used row → entry_in row ≡ Some e → RowRead s t piece used e
-good_row s t piece used (answer.Vector x) e reads is = subst (RowRead s t piece used) (same_Some (Vector x) e is) (record {
-  gives = λ rest. reads.gives rest (on_rest rest);
-  newline = reads.line.newline refl;
-  line = reads.bytes.line;
-  count = reads.bytes.count;
-})
+good_row s t piece used (answer.Vector x) e reads is = subst (RowRead s t piece used)
+    (same_Some (Vector x) e is) (record {
+      gives = λ rest. reads.gives rest (on_rest rest);
+      newline = reads.line.newline refl;
+      line = reads.bytes.line;
+      count = reads.bytes.count;
+    })
 good_row s t piece used answer.Reset e reads is = subst (RowRead s t piece used) (same_Some Reset e is) (record {
   gives = λ rest. reads.gives rest (on_rest rest);
   newline = reads.line.newline refl;

@@ -10,8 +10,8 @@ use Rattle.net_trace.specs.declared.fail.RunFail.TheVariants as fails
 use Rattle.net_trace.specs.Outcomes.{Outcome, NetGives}
 use Rattle.net_trace.specs.Taken.{TakenFrom, TakesLittle, Stops, NetRows}
 
--- what a call has to run: from what it is told, the outcomes that it may have, the text of the trace, and the lines that
--- are written where reading stopped behind some bytes of it; and whether it has the file that it needs
+-- what a call has to run: from what it is told, the outcomes that it may have, the text of the trace, and the lines
+-- that are written where reading stopped behind some bytes of it; and whether it has the file that it needs
 pub record RunTask (A : Type 0) : Type 1 where
   pub told : Option A
   pub gives : A → Outcome → Type 0
@@ -59,9 +59,9 @@ pub record ReadFailed (has : Type 0) (before now : ShelfState) : Type 0 where
   pub rose : Rose before.faults now.faults
   pub never : before.sound ≡ true → has → ⊥
 
--- the trace was read to its end and the report written; or it was refused, and the report written but for the line of the
--- refusal; or reading failed, and what was written is due; or writing failed; or no memory was found, before or not far
--- behind the header, and nothing was written
+-- the trace was read to its end and the report written; or it was refused, and the report written but for the line of
+-- the refusal; or reading failed, and what was written is due; or writing failed; or no memory was found, before or not
+-- far behind the header, and nothing was written
 abbrev pub RunEnds : {A : Type 0} → RunTask A → ShelfState → ShelfState → SinkState → SinkState
     → Result (Unit {0}) RunFail → Type 0
 RunEnds task shelf shelf_now sink sink_now (Ok done) =

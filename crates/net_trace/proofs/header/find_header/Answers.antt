@@ -6,8 +6,8 @@ use Rattle.std.specs.Io.KnownBytes.{prepend_known}
 use Rattle.trace_reader.specs.States.{ReadsHead}
 use Rattle.trace_reader.specs.declared.answers.Head.TheVariants as head
 use Rattle.net_trace.proofs.StandLemmas.{read_only, reads_twice, taken_more}
-use Rattle.net_trace.proofs.HeadLemmas.{head_room, header_ends, header_more, header_refused, little_behind, none_follows}
-use Rattle.net_trace.proofs.HeadLemmas.{piece_short}
+use Rattle.net_trace.proofs.HeadLemmas.{head_room, header_ends, header_more, header_refused, little_behind}
+use Rattle.net_trace.proofs.HeadLemmas.{none_follows, piece_short}
 use Rattle.net_trace.proofs.header.find_header.Goals as goal
 
 pub returns-in_default-header-clause-heads : goal.returns-in_default-header-clause-heads

@@ -7,8 +7,8 @@ pub returns-in-Refused-clause-finishes : goal.returns-in-Refused-clause-finishes
 returns-in-Refused-clause-finishes g c = λ net before done entries all shown.
     finish_refused net before _ _ c.args.reader.now c.next_row-row.new.self done c.next_row-row.result.0 entries
     c.args.report.now c.in-Refused.refusal c.refuse.result all shown
-    (subst (λ row. ReadsRow c.args.reader.now c.next_row-row.new.self [] true c.next_row-row.result.0 row) c.in-Refused.is
-    c.next_row-row.ensures) (c.refuse.ensures.refuses net before entries shown)
+    (subst (λ row. ReadsRow c.args.reader.now c.next_row-row.new.self [] true c.next_row-row.result.0 row)
+    c.in-Refused.is c.next_row-row.ensures) (c.refuse.ensures.refuses net before entries shown)
 
 pub returns-in_default-row-clause-finishes : goal.returns-in_default-row-clause-finishes
 returns-in_default-row-clause-finishes g c = λ net before done entries all shown.
@@ -21,7 +21,8 @@ returns-in-Ok-clause-finishes g c = λ net before done entries all shown.
     finish_row net before _ _ c.args.reader.now c.next_row-row.new.self done c.next_row-row.result.0 entries
     c.args.report.now c.next_row-row.result.1 c.in-Some.entry c.end-in-Ok.result all shown c.next_row-row.ensures
     (sym c.in-Some.ensures)
-    (c.end-in-Ok.ensures.ends net before (entries ++ c.in-Some.entry ∷ []) (c.in-Ok.ensures.ok net before entries shown))
+    (c.end-in-Ok.ensures.ends net before (entries ++ c.in-Some.entry ∷ [])
+    (c.in-Ok.ensures.ok net before entries shown))
 
 pub returns-in-Err-clause-finishes : goal.returns-in-Err-clause-finishes
 returns-in-Err-clause-finishes g c = λ net before done entries all shown.

@@ -14,7 +14,8 @@ loop-fail-smaller g c =
 pub returns-in-Ok-Done-clause-ends : goal.returns-in-Ok-Done-clause-ends
 returns-in-Ok-Done-clause-ends g c = λ net before first st.
     done_ends net before _ first _ c.read_piece.new.reader c.read_piece.new.report c.in-Ok-Done.field-0
-    c.in-Ok-Done.field-0-is (c.in-Ok-Done.ensures.advances net before first (c.loop-fail.invariant.stands net before first st))
+    c.in-Ok-Done.field-0-is
+    (c.in-Ok-Done.ensures.advances net before first (c.loop-fail.invariant.stands net before first st))
 
 pub returns-in-Err-clause-ends : goal.returns-in-Err-clause-ends
 returns-in-Err-clause-ends g c = λ net before first st.

@@ -14,7 +14,8 @@ invariant-loop-at g l = record {
   used : l.reader.used ≡ l.fn.reader.used + l.at;
   within : l.at ≤ length l.piece;
   so_far : (net : Circuit) (before : SinkState) (done : List ℕ) (entries : List Entry)
-      → Read net.inputs l.fn.reader done l.piece entries → Shown net before entries l.fn.report (g.K.Sink.state l.fn.sink)
+      → Read net.inputs l.fn.reader done l.piece entries
+      → Shown net before entries l.fn.report (g.K.Sink.state l.fn.sink)
       → PieceSoFar net before (done ++ l.piece) (drop l.at l.piece) l.reader l.report (g.K.Sink.state l.sink);
 }
 

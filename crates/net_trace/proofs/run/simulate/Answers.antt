@@ -5,19 +5,22 @@ use Rattle.net_trace.proofs.EndLemmas.{run_ends, untouched}
 use Rattle.net_trace.proofs.run.simulate.Goals as goal
 
 pub returns-in_default-clause-ends : goal.returns-in_default-clause-ends
-returns-in_default-clause-ends g c = no_memory_yet c.args.net.now c.args.name.now (g.S.Shelf.state c.args.shelf.now) (g.K.Sink.state c.args.sink.now)
+returns-in_default-clause-ends g c =
+    no_memory_yet c.args.net.now c.args.name.now (g.S.Shelf.state c.args.shelf.now) (g.K.Sink.state c.args.sink.now)
 
 pub returns-in_default-clause-few : goal.returns-in_default-clause-few
 returns-in_default-clause-few g c = λ files told. untouched _ _
 
 pub returns-in_default-new-clause-ends : goal.returns-in_default-new-clause-ends
-returns-in_default-new-clause-ends g c = no_memory_yet c.args.net.now c.args.name.now (g.S.Shelf.state c.args.shelf.now) (g.K.Sink.state c.args.sink.now)
+returns-in_default-new-clause-ends g c =
+    no_memory_yet c.args.net.now c.args.name.now (g.S.Shelf.state c.args.shelf.now) (g.K.Sink.state c.args.sink.now)
 
 pub returns-in_default-new-clause-few : goal.returns-in_default-new-clause-few
 returns-in_default-new-clause-few g c = λ files told. untouched _ _
 
 pub returns-in_default-vec-clause-ends : goal.returns-in_default-vec-clause-ends
-returns-in_default-vec-clause-ends g c = no_memory_yet c.args.net.now c.args.name.now (g.S.Shelf.state c.args.shelf.now) (g.K.Sink.state c.args.sink.now)
+returns-in_default-vec-clause-ends g c =
+    no_memory_yet c.args.net.now c.args.name.now (g.S.Shelf.state c.args.shelf.now) (g.K.Sink.state c.args.sink.now)
 
 pub returns-in_default-vec-clause-few : goal.returns-in_default-vec-clause-few
 returns-in_default-vec-clause-few g c = λ files told. untouched _ _
