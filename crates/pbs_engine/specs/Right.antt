@@ -27,8 +27,8 @@ pub record Realizes (spec : Spec) (net : Circuit) : Type 0 where
   -- a port for each input and for each action, in declared order
   pub inputs : net.inputs ≡ ports_of (codes "i_") (input_names spec.inputs)
   pub outputs : output_names net ≡ ports_of (codes "a_") (action_names spec.actions)
-  -- in every run from reset the output of an action is 1 in exactly the rows where a derivation of the vectors since the
-  -- last reset ends at it, and register p after a row tells whether place p stands
+  -- in every run from reset the output of an action is 1 in exactly the rows where a derivation of the vectors since
+  -- the last reset ends at it, and register p after a row tells whether place p stands
   pub shows : (v : List Entry) (rows : ℕ → Row) → IsRun net v rows → (k : ℕ) → k ≤ length v
       → ShowsRow net (expanded spec) (length (action_names spec.actions)) v rows k
   pub registers : length net.registers ≡ place_count (expanded spec)
@@ -48,7 +48,8 @@ pub record IsVerilogOf (text verilog : List ℕ) : Type 0 where
   pub run : specifications.IsRun text spec
   pub right : IsRight spec verilog
 
--- what was appended is Verilog of the text's specification; where the text is refused, or no memory was found, nothing was
+-- what was appended is Verilog of the text's specification; nothing was where the text is refused, or no memory was
+-- found
 abbrev pub Compiles : List ℕ → List ℕ → List ℕ → Result (Unit {0}) EngineFail → Type 0
 Compiles text before now (Ok done) = (verilog : List ℕ) × IsVerilogOf text verilog × (now ≡ before ++ verilog)
 Compiles text before now (Err (fails.Refused r)) = specifications.IsNotRun text r × (now ≡ before)
