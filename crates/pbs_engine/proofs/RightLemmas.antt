@@ -62,6 +62,7 @@ few_gates gates nodes inputs actions levels sets le = omega arith
 realizes : (spec : Spec) (net : Circuit) → not_built spec ≡ None
     → IsController (input_names spec.inputs) (action_names spec.actions) (expanded spec) net → Realizes spec net
 realizes spec net built controller = record {
+  circuit = controller.circuit;
   inputs = controller.inputs_named;
   outputs = controller.outputs_named;
   shows = controller.shows_always

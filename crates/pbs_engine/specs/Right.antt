@@ -7,7 +7,7 @@ use Rattle.pbs_ast.specs.Sound.{node_count, place_count}
 use Rattle.pbs_rules.specs.Naming.{input_names, action_names}
 use Rattle.pbs_expand.specs.Expanded.{expanded}
 use Rattle.net_core.specs.Rows.{Row}
-use Rattle.net_core.specs.Circuits.{Circuit, IsBuilt, output_names}
+use Rattle.net_core.specs.Circuits.{Circuit, IsBuilt, IsCircuit, output_names}
 use Rattle.net_core.specs.Runs.{IsRun}
 use Rattle.vlog_text.specs.Reading.{StandsFor}
 use Rattle.pbs_controller.specs.Controllers.{ShowsRow}
@@ -24,6 +24,8 @@ units spec =
 
 -- the netlist is a controller of the specification
 pub record Realizes (spec : Spec) (net : Circuit) : Type 0 where
+  -- each gate reads earlier gates only, and what is named is there: so every list of entries has a run
+  pub circuit : IsCircuit net
   -- a port for each input and for each action, in declared order
   pub inputs : net.inputs ≡ ports_of (codes "i_") (input_names spec.inputs)
   pub outputs : output_names net ≡ ports_of (codes "a_") (action_names spec.actions)
