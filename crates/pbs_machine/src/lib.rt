@@ -14,8 +14,7 @@ ghost use Rattle.pbs_machine.specs.Runs.{IsControllerRun};
 /// In each run of vectors and resets, after each row, the controller's registers are the places that stand over the
 /// vectors since the last reset, and its fire bits are the actions that fire, where no scope was begun again while it
 /// was live at an earlier position of that stretch. So it is where no scope overlaps at any position of the stretch,
-/// and
-/// in a tree without scopes none ever does.
+/// and in a tree without scopes none ever does.
 pub fn controller_is_right()
     ensures registers { (main : Tree) (v : List Entry) (old : ℕ → ℕ → Bool) (reset : ℕ → Bool) (input : ℕ → ℕ)
         → IsSound main → IsControllerRun main v old reset input → (k : ℕ) → k ≤ length v
