@@ -217,8 +217,8 @@ lives-less {v} {k = k} (lives_trap {i = i} {e = e} q c h) g =
     let w = lives-within h in lives_trap (quiet-less q) (alive-less v e i k (omega arith) c) (lives-less h g)
 lives-less (lives_after high f h) g = let w = lives-within h in lives_after (omega arith) f (lives-less h g)
 
--- an edge that reaches a place in the body of a live instance: it lies inside the body where the instance had begun, and enters the
--- scope where it begins
+-- an edge that reaches a place in the body of a live instance: it lies inside the body where the instance had begun,
+-- and enters the scope where it begins
 pub record Follows (v : List ℕ) (e : Tree) (i k t a : ℕ) : Type 0 where
   pub place : ℕ
   pub above : List Round

@@ -27,7 +27,8 @@ module _ (main : Tree) where
     pub reaches-closed : (p q : ℕ) → Reaches main p q → R p q
     reaches-closed p q r = subst (λ x. R x q) r.5 (subst (λ y. R (r.0).to y) r.6 (ends r.4))
 
-  -- a joint step from a pair that is reached, in which d lies inside the body of s and e enters s, or the other way round
+  -- a joint step from a pair that is reached, in which d lies inside the body of s and e enters s, or the other way
+  -- round
   abbrev pub IsRefusedStep : ℕ → ScopedEdge → ScopedEdge → Type 0
   IsRefusedStep s d e = IsJointStep main d e × Reaches main d.from e.from ×
       ((LiesInBody d s × Enters e s) ⊎ (Enters d s × LiesInBody e s))

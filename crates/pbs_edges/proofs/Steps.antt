@@ -329,7 +329,8 @@ module _ (v : List ℕ) where
             let low : b.0 < suc (suc k) = omega arith in
             elim (at_or_below b.0 (suc k) low) [
               | inl same ↦
-                  let f : IsFirstPass (trips e x v i) i (suc k) = subst (λ m. IsFirstPass (trips e x v i) i m) same b.2 in
+                  let f : IsFirstPass (trips e x v i) i (suc k) =
+                  subst (λ m. IsFirstPass (trips e x v i) i m) same b.2 in
                   let p = trip-parts e x v i k f.passes in
                   let d = departure x i k l p.0 in
                   let quiet : Quiet (trips e x v i) i k = quiet_from_first f in

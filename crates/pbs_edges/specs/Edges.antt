@@ -44,8 +44,8 @@ pub data Last : Tree → ℕ → List Round → Type 0 where
   last_trap : {at : Spot} {p s : ℕ} {rs : List Round} {e x h : Tree} → Last x p rs → nullable h ≡ true → Last
       (Scope at s e x h) p (Trap s ∷ rs)
 
--- a follow edge of the tree by the node n, with three lists of scopes: those in whose body or trap the node lies, those at or
--- below the node round the place that is left, and those below the node round the place that is reached
+-- a follow edge of the tree by the node n, with three lists of scopes: those in whose body or trap the node lies, those
+-- at or below the node round the place that is left, and those below the node round the place that is reached
 pub data Follow : Tree → (from to node : ℕ) → (above left entered : List Round) → Type 0 where
   follow_seq : {at : Spot} {p q : ℕ} {ls fs : List Round} {e f : Tree} → Last e p ls → First f q fs → Follow
       (Seq at e f) p q at.number [] ls fs

@@ -9,7 +9,8 @@ use pbs_ast::{Tree, TreeKind};
 /// The most follow edges that a tree may have.
 pub const MOST_EDGES: u64 = 16_384;
 
-// Whether the tree may be empty, and how many of each it has. The number of edges stays at the first one over the limit.
+// Whether the tree may be empty, and how many of each it has. The number of edges stays at the first one over the
+// limit.
 #[derive(Clone, Copy)]
 pub struct Counts {
     pub nullable: bool,
@@ -103,7 +104,7 @@ fn scoped(body: Counts, trap: Counts, after: Counts) -> Counts
 }
 
 // The counts of the tree.
-pub fn count_all(tree: &Tree) -> Counts
+pub(crate) fn count_all(tree: &Tree) -> Counts
     requires { place_count (tree_of tree.now) ≤ 4096 }
     ensures { AreCounts (tree_of tree.now) result }
 {

@@ -176,7 +176,7 @@ fn scoped(
 }
 
 // The ends of the tree, whose follow edges are appended, those of a node after those of its parts.
-pub fn list_all(alloc: Global, tree: &Tree, out: &mut Vec<Edge>) -> Result<Ends, Memory>
+pub(crate) fn list_all(alloc: Global, tree: &Tree, out: &mut Vec<Edge>) -> Result<Ends, Memory>
     ensures ends { IfOk result (λ ends. AreEnds (tree_of tree.now) ends) }
     ensures follows { OnOk result (out.new.items ≡ out.old.items ++ follow_edges (tree_of tree.now)) }
 {
