@@ -14,8 +14,8 @@ use pbs_ast::Main;
 use pbs_edges::Edges;
 use std::alloc::Global;
 
-/// Checks the overlap rule, and tells which places are together. `Scope` exactly where a scope may be begun while it is
-/// live: the lowest such scope, with its span.
+/// Checks the overlap rule, and tells which places are together. `Scope` exactly where a scope breaks the rule: the
+/// lowest such scope, with its span.
 pub fn check_overlap(alloc: Global, main: &Main, edges: &Edges) -> Result<Pairs, OverlapFail>
     requires { AreEdges (tree_of main.now.tree) edges.now }
     ensures accepted { IfOk result (λ pairs. IsAccepted (tree_of main.now.tree)) }

@@ -8,8 +8,8 @@ use thiserror::Error;
 /// Why a tree isn't accepted.
 #[derive(Clone, Copy, Debug, PartialEq, Eq, Error)]
 pub enum OverlapFail {
-    /// The lowest scope that may be begun while it is live, and its span.
-    #[error("a scope may be begun while it is live")]
+    /// The lowest scope that breaks the overlap rule, and its span.
+    #[error("a scope breaks the overlap rule")]
     Scope(u32, Span),
     #[error("no memory was found")]
     Memory,

@@ -1,5 +1,5 @@
 // Which places' effective terms can be true in one vector.
-ghost use Rattle.std.specs.Prelude.{◌≡◌, ◌≤◌, ◌<◌, ◌+◌, ◌*◌, ◌++◌, ◌∷◌, [], length, slice_index, ℕ, IfOk, OnOk, IsTrue, true, false};
+ghost use Rattle.std.specs.Prelude.{◌≡◌, ◌≤◌, ◌<◌, ◌*◌, length, slice_index, ℕ, IfOk, IsTrue};
 ghost use Rattle.bool_terms.specs.Terms.{holds, term_of, term_inputs_below};
 ghost use Rattle.bool_bdd.specs.Diagrams.{IsNode};
 ghost use Rattle.pbs_ast.specs.Trees.{tree_of};
@@ -40,7 +40,8 @@ fn joint_table(alloc: Global, store: &Store, nodes: &[Node]) -> Result<Vec<bool>
     requires few { length nodes.now ≤ 4096 }
     requires there { AllNodes store.now nodes.now }
     ensures size { IfOk result (λ table. length table.items ≡ length nodes.now * length nodes.now) }
-    ensures told { IfOk result (λ table. AreTold store.now nodes.now (length nodes.now * length nodes.now) table.items) }
+    ensures told { IfOk result (λ table.
+        AreTold store.now nodes.now (length nodes.now * length nodes.now) table.items) }
 {
     let count = nodes.len();
     let mut table = Vec::new(alloc);
@@ -52,7 +53,7 @@ fn joint_table(alloc: Global, store: &Store, nodes: &[Node]) -> Result<Vec<bool>
 }
 
 /// For each two places of main whether their effective terms can be true in one vector.
-pub fn joint_terms(alloc: Global, main: &Main) -> Result<JointTerms, Memory>
+pub(crate) fn joint_terms(alloc: Global, main: &Main) -> Result<JointTerms, Memory>
     requires { HasFewTerms (tree_of main.now.tree) 256 }
     ensures { IfOk result (TellsJoint (tree_of main.now.tree)) }
 {
@@ -74,7 +75,7 @@ pub fn joint_terms(alloc: Global, main: &Main) -> Result<JointTerms, Memory>
 impl JointTerms {
     /// Whether the effective terms of both places can be true in one vector.
     #[inline]
-    pub fn open_together(&self, p: usize, q: usize) -> bool
+    pub(crate) fn open_together(&self, p: usize, q: usize) -> bool
         requires p { p < length self.now.of_place }
         requires q { q < length self.now.of_place }
         requires few { self.now.count ≤ 256 }

@@ -1,4 +1,5 @@
-//! The overlap rule: whether a scope of main may be begun while it is live, and which places may stand together.
+//! The overlap rule (docs/LANGUAGE.md): which scope of main breaks it, and which places are together. Where none breaks
+//! it, no scope is begun again while it is live.
 #![tactic(auto)]
 
 mod checking;

@@ -67,7 +67,7 @@ impl Plan {
     }
 
     /// The lowest scope that a joint step refuses.
-    pub fn lowest_refused(&self, reached: &Reached) -> Option<u32>
+    pub(crate) fn lowest_refused(&self, reached: &Reached) -> Option<u32>
         requires shape { IsShaped self.now }
         requires froms { EachFromBelow self.now }
         requires size { length reached.now.marks.items ≡ self.now.places * self.now.places }

@@ -13,7 +13,7 @@ pub struct Pairs {
 impl Pairs {
     ghost use Rattle.pbs_overlap.specs.Told.{says};
 
-    pub fn new(places: usize, table: Vec<bool>) -> Pairs
+    pub(crate) fn new(places: usize, table: Vec<bool>) -> Pairs
         requires sized { length table.items ≡ places * places }
         requires few { places ≤ 4096 }
         ensures places { result.places ≡ places }

@@ -85,7 +85,7 @@ fn firsts_of(alloc: Global, places: usize, edges: &[Edge]) -> Result<Vec<usize>,
 }
 
 /// The plan of a search for main, whose scopes have these ranges.
-pub fn make_plan(
+pub(crate) fn make_plan(
     alloc: Global,
     main: &Main,
     edges: &Edges,

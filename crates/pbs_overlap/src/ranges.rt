@@ -30,7 +30,7 @@ fn range_of(span: Span, body: &Tree, trap: &Tree, after: &Tree) -> ScopeRange
 }
 
 // Appends the numbers of the tree's terminals, in order of places.
-pub fn push_leaves(tree: &Tree, out: &mut Vec<u32>) -> Result<(), Memory>
+pub(crate) fn push_leaves(tree: &Tree, out: &mut Vec<u32>) -> Result<(), Memory>
     ensures { OnOk result (out.new.items ≡ out.old.items ++ leaves (tree_of tree.now)) }
 {
     match &tree.kind {
@@ -57,7 +57,7 @@ pub fn push_leaves(tree: &Tree, out: &mut Vec<u32>) -> Result<(), Memory>
 }
 
 // Appends the tree's scopes, in the order of their numbers.
-pub fn push_ranges(tree: &Tree, out: &mut Vec<ScopeRange>) -> Result<(), Memory>
+pub(crate) fn push_ranges(tree: &Tree, out: &mut Vec<ScopeRange>) -> Result<(), Memory>
     ensures { OnOk result (out.new.items ≡ out.old.items ++ ranges (tree_of tree.now)) }
 {
     match &tree.kind {

@@ -55,7 +55,7 @@ impl Plan {
 
     // Whether the two steps can be taken together.
     #[inline]
-    pub fn fit(&self, i: usize, j: usize) -> bool
+    pub(crate) fn fit(&self, i: usize, j: usize) -> bool
         requires i { i < vec_len self.now.steps }
         requires j { j < vec_len self.now.steps }
         ensures { result ≡ fit_at self.now.steps.items i j }
@@ -136,7 +136,8 @@ impl Plan {
         requires starts { EachBelow self.now.places starts.now }
         requires size { length reached.old.marks.items ≡ self.now.places * self.now.places }
         requires work { IsWork reached.old.marks.items reached.old.queue.items }
-        ensures { OnOk result (Visits (Between 0 (length starts.now * length starts.now) (IsStart self.now.places starts.now))
+        ensures { OnOk result (Visits
+            (Between 0 (length starts.now * length starts.now) (IsStart self.now.places starts.now))
             reached.old reached.new) }
     {
         let count = starts.len();
@@ -148,7 +149,7 @@ impl Plan {
     }
 
     /// All pairs that double walks end in.
-    pub fn search(&self, alloc: Global, starts: &[u32]) -> Result<Reached, Memory>
+    pub(crate) fn search(&self, alloc: Global, starts: &[u32]) -> Result<Reached, Memory>
         requires shape { IsShaped self.now }
         requires few { length starts.now ≤ 4096 }
         requires starts { EachBelow self.now.places starts.now }

@@ -44,7 +44,7 @@ fn enters_range(leaf: u32, node: u32, range: &ScopeRange) -> bool
 }
 
 // The scope in whose trap the terminal that is left lies, and the node doesn't.
-pub fn aborted(ranges: &[ScopeRange], leaf: u32, node: u32) -> Option<Region>
+pub(crate) fn aborted(ranges: &[ScopeRange], leaf: u32, node: u32) -> Option<Region>
     requires { length ranges.now ≤ 32768 }
     ensures { IsAborted ranges.now leaf node result }
 {
@@ -62,7 +62,7 @@ pub fn aborted(ranges: &[ScopeRange], leaf: u32, node: u32) -> Option<Region>
 }
 
 // The outermost scope in which the terminal that is reached lies, and the node doesn't.
-pub fn entered(ranges: &[ScopeRange], leaf: u32, node: u32) -> Option<Region>
+pub(crate) fn entered(ranges: &[ScopeRange], leaf: u32, node: u32) -> Option<Region>
     requires { length ranges.now ≤ 32768 }
     ensures { IsEntered ranges.now leaf node result }
 {
@@ -91,7 +91,7 @@ impl Step {
 
     /// Whether it aborts a scope that the other one leaves without aborting it.
     #[inline]
-    pub fn clashes(&self, other: &Step) -> bool
+    pub(crate) fn clashes(&self, other: &Step) -> bool
         ensures { result ≡ clash self.now other.now }
     {
         match self.aborts {
@@ -103,7 +103,7 @@ impl Step {
     }
 
     /// The lowest scope that the other one enters, and inside whose body it lies itself.
-    pub fn refused(&self, other: &Step) -> Option<u32>
+    pub(crate) fn refused(&self, other: &Step) -> Option<u32>
         ensures { result ≡ refused_scope self.now other.now }
     {
         match other.enters {

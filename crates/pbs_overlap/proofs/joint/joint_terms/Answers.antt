@@ -14,7 +14,8 @@ nodes_of-requires c =
 
 pub joint_table-requires-clause-few : goal.joint_table-requires-clause-few
 joint_table-requires-clause-few c =
-    let few = few_nodes (tree_of c.args.main.now.tree) c.in_ok-terms.field-0 c.in_ok-nodes.nodes.items c.nodes_of.new.store c.in_ok-terms.ensures c.requires
+    let few = few_nodes (tree_of c.args.main.now.tree) c.in_ok-terms.field-0 c.in_ok-nodes.nodes.items
+    c.nodes_of.new.store c.in_ok-terms.ensures c.requires
     (rw c.as_slice.ensures at c.in_ok-nodes.ensures.nodes) in
     omega (arith, few, ap length c.deref.ensures.value)
 
@@ -27,8 +28,8 @@ pub returns : goal.returns
 returns c =
     let main = tree_of c.args.main.now.tree in
     let t = c.in_ok-terms.field-0 in
-    tells_joint main (c.args.main.now.sound).counted t c.nodes_of.new.store c.in_ok-nodes.nodes.items c.in_ok-joint.joint.items
-    c.in_ok-terms.ensures (few_codes main t c.in_ok-terms.ensures c.requires)
+    tells_joint main (c.args.main.now.sound).counted t c.nodes_of.new.store c.in_ok-nodes.nodes.items
+    c.in_ok-joint.joint.items c.in_ok-terms.ensures (few_codes main t c.in_ok-terms.ensures c.requires)
     (rw c.as_slice.ensures at c.in_ok-nodes.ensures.nodes)
     (rw c.deref.ensures.value at c.in_ok-joint.ensures.told) _ refl (search rules) refl
     (rw c.deref.ensures.value at c.in_ok-joint.ensures.size)
