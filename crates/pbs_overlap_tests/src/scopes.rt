@@ -38,9 +38,10 @@ fn handshakes(rt: HostRuntime) {
     }
 }
 
+// A scope under a star, or by itself.
 #[test]
 fn one_scope(rt: HostRuntime) {
-    let cases: [(&[u8], Answer); 12] = [
+    let cases: [(&[u8], Answer); 5] = [
         // The trap aborts each instance after one step, so 0>1 is never taken beside an edge that begins anew.
         (
             b"spec 1; main = (try ([1], [1]) abort ([1]) then ())*;",
@@ -66,6 +67,16 @@ fn one_scope(rt: HostRuntime) {
             b"spec 1; input a, b, c; main = try ([a]*, [b]) abort ([c]) then ();",
             Accepted(2),
         ),
+    ];
+    for (text, wanted) in cases {
+        assert_eq!(rt; answered(rt.alloc(), text), wanted);
+    }
+}
+
+// What stands before the scope or after it begins it anew.
+#[test]
+fn one_scope_and_what_is_round_it(rt: HostRuntime) {
+    let cases: [(&[u8], Answer); 4] = [
         // After an abort 2>3 begins the after part and 2>0 the scope; then 3>0 enters beside 0>1.
         (
             b"spec 1; input a, b, c; main = (try ([a], [a]) abort ([b]) then ([c]*))*;",
@@ -85,6 +96,15 @@ fn one_scope(rt: HostRuntime) {
             b"spec 1; input b, c; main = [~b]*, try ([b], [b]) abort ([c]) then ();",
             Accepted(4),
         ),
+    ];
+    for (text, wanted) in cases {
+        assert_eq!(rt; answered(rt.alloc(), text), wanted);
+    }
+}
+
+#[test]
+fn one_scope_with_two_traps(rt: HostRuntime) {
+    let cases: [(&[u8], Answer); 3] = [
         // The trap's branches are 2, and 3 and 4. An abort by the one beside 3 isn't taken; one by both at once is.
         (
             b"spec 1; input a, b, c, d; main = (try ([~a]*, [a]) abort ([b] | [c], [d]) then ())*;",
