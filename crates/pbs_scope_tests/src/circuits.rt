@@ -1,5 +1,5 @@
 // From a text to its controller, and from that to the outputs of a run.
-ghost use Rattle.std.specs.Prelude.{◌≡◌, ◌≤◌, length, IfOk};
+ghost use Rattle.std.specs.Prelude.{◌≡◌, ◌≤◌, length};
 ghost use Rattle.pbs_ast.specs.Trees.{tree_of};
 ghost use Rattle.pbs_check.specs.Checked.{IsUnbroken};
 ghost use Rattle.pbs_expand.specs.Ready.{NamesDeclared};
@@ -7,9 +7,9 @@ ghost use Rattle.pbs_expand.specs.Ready.{NamesDeclared};
 use net_core::Netlist;
 use net_eval::Sim;
 use pbs_ast::{Main, Spec};
-use pbs_base::{Entry, Memory, Names, Word};
+use pbs_base::{Entry, Memory, Names};
 use pbs_check::check_spec;
-use pbs_check::laws::within_limits;
+use pbs_check::laws::{declared_once, within_limits};
 use pbs_controller::build_controller;
 use pbs_expand::expand;
 use pbs_read::read_spec;
@@ -17,32 +17,17 @@ use pbs_rules::{action_words, input_words};
 use std::alloc::Global;
 use std::test::Fail;
 
-// The words as names, where they are different.
-fn names_of(alloc: Global, words: &[Word]) -> Result<Names, Memory>
-    ensures { IfOk result (λ names. length names ≡ length words.now) }
-{
-    let mut names = Names::new(alloc);
-    for word in words {
-        let copy = Word::new(alloc, word.bytes())?;
-        names.add(copy)?;
-    }
-    if names.len() == words.len() {
-        Ok(names)
-    } else {
-        Err(Memory)
-    }
-}
-
 // The controller of a specification and its tree.
 fn build(alloc: Global, spec: &Spec, main: &Main) -> Result<Netlist, Memory>
     requires unbroken { IsUnbroken spec.now }
     requires names { NamesDeclared spec.now (tree_of main.now.tree) }
 {
+    declared_once();
     within_limits();
     let input_list = input_words(alloc, &spec.inputs)?;
     let action_list = action_words(alloc, &spec.actions)?;
-    let inputs = names_of(alloc, input_list.as_slice())?;
-    let actions = names_of(alloc, action_list.as_slice())?;
+    let inputs = Names::from_words(alloc, input_list.as_slice())?;
+    let actions = Names::from_words(alloc, action_list.as_slice())?;
     build_controller(alloc, &inputs, &actions, main)
 }
 

@@ -6,5 +6,5 @@ pub build_controller-requires-clause-inputs_few : goal.build_controller-requires
 build_controller-requires-clause-inputs_few c =
     let few = c.within_limits.ensures.inputs c.args.spec.now c.requires.unbroken in
     let long : length c.in_ok-inputs.inputs ≡ length (input_names c.args.spec.now.inputs) =
-    c.in_ok-inputs.ensures ∙ ap length (c.as_slice.ensures.value ∙ c.in_ok-input_list.ensures) in
+    ap length (c.in_ok-inputs.ensures ∙ (c.as_slice.ensures.value ∙ c.in_ok-input_list.ensures)) in
     omega (arith, few, long)
