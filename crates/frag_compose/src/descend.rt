@@ -13,7 +13,7 @@ use pbs_base::Memory;
 
 /// Adds to each leaf's wire the rows in which the plan reaches the leaf, where the plan is begun by `start` and kept by
 /// `keep`.
-pub fn descend(
+pub(crate) fn descend(
     b: &mut Builder,
     plan: &Plan,
     start: Wire,

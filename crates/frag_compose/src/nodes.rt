@@ -20,7 +20,7 @@ pub struct Risen {
 }
 
 /// A node in which no derivation stands before a later terminal.
-pub fn lone(ends: Wire, plan: Plan) -> Risen
+pub(crate) fn lone(ends: Wire, plan: Plan) -> Risen
     ensures ends { result.up.ends ≡ ends }
     ensures stays { result.up.stays ≡ Wire.Const false }
     ensures plan { result.plan ≡ plan }
@@ -33,7 +33,7 @@ pub fn lone(ends: Wire, plan: Plan) -> Risen
 }
 
 /// The sequence of `e` and `f`.
-pub fn sequence(
+pub(crate) fn sequence(
     b: &mut Builder,
     first: Risen,
     second: Risen,
@@ -63,7 +63,7 @@ pub fn sequence(
     Ok(Risen { up, plan })
 }
 
-pub fn choice(b: &mut Builder, first: Risen, second: Risen) -> Result<Risen, Memory>
+pub(crate) fn choice(b: &mut Builder, first: Risen, second: Risen) -> Result<Risen, Memory>
     requires first { AreInner b.old first.up }
     requires second { AreInner b.old second.up }
     ensures extends { OnOk result (Extends b.old b.new 2 0) }
@@ -82,7 +82,7 @@ pub fn choice(b: &mut Builder, first: Risen, second: Risen) -> Result<Risen, Mem
 }
 
 /// The star of `e`.
-pub fn star(b: &mut Builder, body: Risen, e: &Tree) -> Result<Risen, Memory>
+pub(crate) fn star(b: &mut Builder, body: Risen, e: &Tree) -> Result<Risen, Memory>
     requires { AreInner b.old body.up }
     ensures extends { OnOk result (Extends b.old b.new 1 0) }
     ensures ends { IfOk result (λ risen. risen.up.ends ≡ body.up.ends) }
@@ -100,7 +100,7 @@ pub fn star(b: &mut Builder, body: Risen, e: &Tree) -> Result<Risen, Memory>
 }
 
 /// The scope with the after part `h`.
-pub fn scope(
+pub(crate) fn scope(
     b: &mut Builder,
     body: Risen,
     trap: Risen,

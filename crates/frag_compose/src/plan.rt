@@ -21,7 +21,7 @@ pub enum Plan {
     Watch(Up, Up, Box<Plan>, Box<Plan>, Box<Plan>),
 }
 
-pub fn then_plan(
+pub(crate) fn then_plan(
     alloc: Global,
     ends: Wire,
     skip: bool,
@@ -35,7 +35,7 @@ pub fn then_plan(
     Ok(Plan::Then(ends, skip, first, second))
 }
 
-pub fn either_plan(alloc: Global, first: Plan, second: Plan) -> Result<Plan, Memory>
+pub(crate) fn either_plan(alloc: Global, first: Plan, second: Plan) -> Result<Plan, Memory>
     ensures { IfOk result (λ plan. IsEither plan first second) }
 {
     let first = Box::new(alloc, first)?;
@@ -43,14 +43,14 @@ pub fn either_plan(alloc: Global, first: Plan, second: Plan) -> Result<Plan, Mem
     Ok(Plan::Either(first, second))
 }
 
-pub fn again_plan(alloc: Global, ends: Wire, body: Plan) -> Result<Plan, Memory>
+pub(crate) fn again_plan(alloc: Global, ends: Wire, body: Plan) -> Result<Plan, Memory>
     ensures { IfOk result (λ plan. IsAgain plan ends body) }
 {
     let body = Box::new(alloc, body)?;
     Ok(Plan::Again(ends, body))
 }
 
-pub fn watch_plan(
+pub(crate) fn watch_plan(
     alloc: Global,
     body_up: Up,
     trap_up: Up,

@@ -15,7 +15,7 @@ use pbs_base::Memory;
 
 /// The wires and the plan of a tree whose holds outside are true where the outer wire is 1. Place p is leaf p, and
 /// action a is leaf `places + a`.
-pub fn rise(
+pub(crate) fn rise(
     b: &mut Builder,
     tree: &Tree,
     places: usize,
