@@ -1,5 +1,5 @@
 -- The rules that are looked at, in their order, and what `check_spec` answers.
-use Rattle.std.specs.Prelude.{◌≡◌, ◌<◌, ℕ, IsTrue, Option, Some, None, Result, Ok, Err}
+use Rattle.std.specs.Prelude.{◌≡◌, ◌<◌, ℕ, IsTrue, Result, Ok, Err}
 use Rattle.pbs_base.specs.declared.refusal.Span.{Span}
 use Rattle.pbs_base.specs.declared.refusal.Refusal.{Refusal}
 use Rattle.pbs_base.specs.declared.refusal.Subject.TheVariants as Subject
@@ -35,10 +35,6 @@ pub record IsFirst (spec : Spec) (refusal : Refusal) : Type 0 where
 pub record IsUnbroken (spec : Spec) : Type 0 where
   pub unbroken : (rule : ℕ) (span : Span) → IsBroken spec rule span → ⊥
 
--- none of the rules below that one
-pub record KeepsBelow (spec : Spec) (n : ℕ) : Type 0 where
-  pub kept : (rule : ℕ) (span : Span) → rule < n → IsBroken spec rule span → ⊥
-
 -- a failure is the first refusal, or want of memory
 abbrev pub IsFailure : Spec → Check → Type 0
 IsFailure spec (answers.Refused refusal) = IsFirst spec refusal
@@ -47,13 +43,3 @@ IsFailure spec answers.Memory = Unit {0}
 abbrev pub Checks : Spec → Result (Unit {0}) Check → Type 0
 Checks spec (Ok done) = IsUnbroken spec
 Checks spec (Err e) = IsFailure spec e
-
--- the same of the rules below that one
-abbrev pub ChecksTo : {X : Type 0} → Spec → ℕ → Result X Check → Type 0
-ChecksTo spec n (Ok x) = KeepsBelow spec n
-ChecksTo spec n (Err e) = IsFailure spec e
-
--- the answer where the rule is broken at that span
-abbrev pub refuse : ℕ → Option Span → Result (Unit {0}) Check
-refuse rule None = Ok tt
-refuse rule (Some span) = Err (answers.Refused (record { subject = Subject.Spec; rule = rule; span = span }))

@@ -1,4 +1,5 @@
--- Whether an expression may be empty and what lies in it, from what is known of the names in it.
+-- Inner definitions, which no public clause cites: whether an expression may be empty and what lies in it,
+-- from what is known of the names in it.
 use Rattle.std.specs.Prelude.{ℕ, ◌==◌, Bool, true, false, ◌&&◌, ◌||◌, nat_eq, List, [], ◌∷◌, Option, Some, None}
 use Rattle.std.specs.HashMap.{get}
 use Rattle.std.specs.Cmp.Lexicographic.{pointwise}

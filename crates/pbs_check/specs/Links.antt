@@ -1,4 +1,5 @@
--- Productions by their numbers, and how they use each other.
+-- Inner definitions, which no public clause cites: productions by their numbers, and how they use each
+-- other.
 use Rattle.std.specs.Prelude.{◌≡◌, ◌<◌, ℕ, ◌⊎◌, length, Bool, true, false, Option, Some, None, List, [], ◌∷◌, ◌++◌, map}
 use Rattle.std.specs.Prelude.{slice_get, slice_index_or, Contains}
 use Rattle.std.specs.Global.{Vec}

@@ -1,4 +1,5 @@
--- A search back along uses, for all productions from which one can be reached.
+-- Inner definitions, which no public clause cites: a search back along uses, for all productions from
+-- which one can be reached.
 use Rattle.std.specs.Prelude.{◌≡◌, ◌+◌, ℕ, ◌⊎◌, Bool, true, false, not, if◌then◌else◌, Option, Some, None}
 use Rattle.std.specs.Prelude.{List, length, slice_get, slice_index_or, Contains}
 use Rattle.std.specs.List.{count_by}

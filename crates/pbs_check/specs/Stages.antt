@@ -1,16 +1,20 @@
--- What the code finds for each rule.
-use Rattle.std.specs.Prelude.{ℕ, ◌+◌, nat_lt, if◌then◌else◌, Option, Some, None, List, [], ◌∷◌, ◌++◌, map, length}
-use Rattle.std.specs.Prelude.{slice_get}
+-- Inner definitions, which no public clause cites: what the code finds for each rule.
+use Rattle.std.specs.Prelude.{ℕ, ◌+◌, ◌<◌, nat_lt, if◌then◌else◌, Option, Some, None, List, [], ◌∷◌, ◌++◌, map, length}
+use Rattle.std.specs.Prelude.{slice_get, Result, Ok, Err}
 use Rattle.std.specs.Option.{option_map}
 use Rattle.pbs_base.specs.declared.refusal.Span.{Span}
+use Rattle.pbs_base.specs.declared.refusal.Subject.TheVariants as Subject
 use Rattle.pbs_ast.specs.declared.syntax.Decl.{Decl}
 use Rattle.pbs_ast.specs.declared.syntax.Level.{Level}
 use Rattle.pbs_ast.specs.declared.syntax.Spec.{Spec}
 use Rattle.pbs_rules.specs.Naming.{inputs_of, input_names, action_names, prod_names}
 use Rattle.pbs_rules.specs.Numbers.{IsNumbering}
+use Rattle.pbs_check.specs.declared.failure.Check.{Check}
+use Rattle.pbs_check.specs.declared.failure.Check.TheVariants as answers
 use Rattle.pbs_check.specs.declared.named.Named.{Named}
 use Rattle.pbs_check.specs.declared.uses.Look.{Look}
 use Rattle.pbs_check.specs.declared.uses.Tables.{Tables}
+use Rattle.pbs_check.specs.Checked.{IsBroken, IsFailure}
 use Rattle.pbs_check.specs.Declaring.{declared_names, listed}
 use Rattle.pbs_check.specs.Least.{least_of, least_by}
 use Rattle.pbs_check.specs.Twices.{first_twice}
@@ -47,3 +51,17 @@ abbrev pub found_in : Look → Tables → Spec → Option Span
 found_in look tables spec =
     least_of (least_by (own_broken look tables spec.inputs) (inside_prods spec.prods ++ inside spec.main))
     (least_by (level_broken look tables) spec.levels)
+
+-- none of the rules below that one is broken
+pub record KeepsBelow (spec : Spec) (n : ℕ) : Type 0 where
+  pub kept : (rule : ℕ) (span : Span) → rule < n → IsBroken spec rule span → ⊥
+
+-- an answer as to the rules below that one
+abbrev pub ChecksTo : {X : Type 0} → Spec → ℕ → Result X Check → Type 0
+ChecksTo spec n (Ok x) = KeepsBelow spec n
+ChecksTo spec n (Err e) = IsFailure spec e
+
+-- the answer where the rule is broken at that span
+abbrev pub refuse : ℕ → Option Span → Result (Unit {0}) Check
+refuse rule None = Ok tt
+refuse rule (Some span) = Err (answers.Refused (record { subject = Subject.Spec; rule = rule; span = span }))

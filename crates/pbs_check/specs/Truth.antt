@@ -1,4 +1,5 @@
--- Facts that are true of what they are known of, and productions that are no part of a recursion.
+-- Inner definitions, which no public clause cites: facts that are true of what they are known of, and
+-- productions that are no part of a recursion.
 use Rattle.std.specs.Prelude.{◌≡◌, ◌⊎◌, ℕ, Bool, true, false, not, List, Option, Some, None, Contains}
 use Rattle.std.specs.List.{count_by}
 use Rattle.std.specs.Option.{is_some}

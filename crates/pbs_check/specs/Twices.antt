@@ -1,4 +1,5 @@
--- The least place at which a name stands twice, found from the list's end.
+-- Inner definitions, which no public clause cites: the least place at which a name stands twice, found from
+-- the list's end.
 use Rattle.std.specs.Prelude.{ℕ, ◌==◌, if◌then◌else◌, List, [], ◌∷◌, Option, Some, None}
 use Rattle.std.specs.Cmp.Lexicographic.{pointwise}
 use Rattle.pbs_base.specs.declared.refusal.Span.{Span}

@@ -1,4 +1,5 @@
--- What a walk over a specification finds, expression by expression.
+-- Inner definitions, which no public clause cites: what a walk over a specification finds, expression by
+-- expression.
 use Rattle.std.specs.Prelude.{ℕ, ◌==◌, ◌^◌, not, ◌&&◌, ◌||◌, nat_eq, nat_lt, nat_le, if◌then◌else◌, Option, Some, None}
 use Rattle.std.specs.Prelude.{List, [], ◌∷◌, ◌++◌}
 use Rattle.std.specs.Option.{is_some}

@@ -22,7 +22,7 @@ fn levels_twice(alloc: Global, levels: &Levels) -> Result<Option<Span>, Memory>
 }
 
 /// The least place that breaks rule 5.
-pub fn found_twice(alloc: Global, spec: &Spec) -> Result<Option<Span>, Memory>
+pub(crate) fn found_twice(alloc: Global, spec: &Spec) -> Result<Option<Span>, Memory>
     ensures { IfOk result (λ found. found ≡ found_twice spec.now) }
 {
     let declared = first_twice(alloc, declared_names(alloc, spec)?)?;
@@ -44,7 +44,7 @@ fn over_inputs(inputs: &Decls) -> Option<Span>
 }
 
 /// The least place that breaks rule 11.
-pub fn found_over(spec: &Spec) -> Option<Span>
+pub(crate) fn found_over(spec: &Spec) -> Option<Span>
     ensures { result ≡ found_over spec.now }
 {
     let action = match spec.actions.get(64) {

@@ -25,7 +25,7 @@ pub struct Known {
 impl Known {
     ghost use Rattle.std.specs.Prelude.{ℕ, List, None};
 
-    pub fn new(alloc: Global) -> Known
+    pub(crate) fn new(alloc: Global) -> Known
         ensures { (name : List ℕ) → known_of result name ≡ None }
     {
         Known {
@@ -144,7 +144,7 @@ fn choice_facts(known: &Known, items: &Items) -> Option<Facts>
 
 /// The facts of an expression, `None` where it names a production of which nothing is known.
 #[cycle(facts)]
-pub fn expr_facts(known: &Known, expr: &Expr) -> Option<Facts>
+pub(crate) fn expr_facts(known: &Known, expr: &Expr) -> Option<Facts>
     ensures { result ≡ expr_facts (known_of known.now) expr.now }
 {
     match &expr.kind {

@@ -129,7 +129,7 @@ impl Graph {
     ghost use Rattle.pbs_rules.specs.Numbers.{IsNumbering};
     ghost use Rattle.pbs_check.specs.Links.{IsGraph};
 
-    pub fn new(alloc: Global, prods: &Prods, numbers: &Numbers) -> Result<Graph, Memory>
+    pub(crate) fn new(alloc: Global, prods: &Prods, numbers: &Numbers) -> Result<Graph, Memory>
         requires { IsNumbering (prod_names prods.now) numbers.now }
         ensures { IfOk result (IsGraph prods.now) }
     {

@@ -4,13 +4,13 @@ ghost use Rattle.pbs_check.specs.Least.{span_le, later_span, earlier_span, least
 
 use pbs_base::Span;
 
-pub fn is_before(first: Span, second: Span) -> bool
+pub(crate) fn is_before(first: Span, second: Span) -> bool
     ensures { result ≡ span_le first second }
 {
     first.start < second.start || (first.start == second.start && first.end <= second.end)
 }
 
-pub fn later(first: Span, second: Span) -> Span
+pub(crate) fn later(first: Span, second: Span) -> Span
     ensures { result ≡ later_span first second }
 {
     if is_before(first, second) {
@@ -20,7 +20,7 @@ pub fn later(first: Span, second: Span) -> Span
     }
 }
 
-pub fn earlier(first: Span, second: Span) -> Span
+pub(crate) fn earlier(first: Span, second: Span) -> Span
     ensures { result ≡ earlier_span first second }
 {
     if is_before(first, second) {
@@ -31,7 +31,7 @@ pub fn earlier(first: Span, second: Span) -> Span
 }
 
 /// The least span of the two.
-pub fn least_of(first: Option<Span>, second: Option<Span>) -> Option<Span>
+pub(crate) fn least_of(first: Option<Span>, second: Option<Span>) -> Option<Span>
     ensures { result ≡ least_of first second }
 {
     match first {

@@ -79,7 +79,7 @@ fn push_prods(alloc: Global, prods: &Prods, out: &mut Vec<Named>) -> Result<(), 
 }
 
 /// Every declared name.
-pub fn declared_names(alloc: Global, spec: &Spec) -> Result<Vec<Named>, Memory>
+pub(crate) fn declared_names(alloc: Global, spec: &Spec) -> Result<Vec<Named>, Memory>
     ensures { IfOk result (λ names. names.items ≡ declared_names spec.now) }
 {
     let mut names = Vec::new(alloc);
@@ -91,7 +91,7 @@ pub fn declared_names(alloc: Global, spec: &Spec) -> Result<Vec<Named>, Memory>
 }
 
 /// The actions that a level lists.
-pub fn listed(alloc: Global, sets: &Sets) -> Result<Vec<Named>, Memory>
+pub(crate) fn listed(alloc: Global, sets: &Sets) -> Result<Vec<Named>, Memory>
     ensures { IfOk result (λ names. names.items ≡ listed sets.now) }
 {
     let mut names = Vec::new(alloc);
@@ -120,7 +120,7 @@ fn first_of(span: Span, known: Option<Span>) -> Span
 }
 
 /// The least place at which a name stands that stands earlier too.
-pub fn first_twice(alloc: Global, mut names: Vec<Named>) -> Result<Option<Span>, Memory>
+pub(crate) fn first_twice(alloc: Global, mut names: Vec<Named>) -> Result<Option<Span>, Memory>
     ensures { IfOk result (λ found. found ≡ first_twice names.items) }
 {
     let mut firsts: HashMap<Word, Span> = HashMap::new(alloc);

@@ -50,7 +50,7 @@ fn take_all(list: &[usize], counts: &mut Vec<usize>, order: &mut Vec<usize>) -> 
 }
 
 /// The numbers, each after all in whose lists it stands. Those of circles and those behind them are left out.
-pub fn order_of(alloc: Global, next: &[Vec<usize>]) -> Result<Vec<usize>, Memory> {
+pub(crate) fn order_of(alloc: Global, next: &[Vec<usize>]) -> Result<Vec<usize>, Memory> {
     let mut counts = counts_of(alloc, next)?;
     let mut order = free_ones(alloc, counts.as_slice())?;
     for place in 0..next.len() {
@@ -73,7 +73,7 @@ fn targets_of(alloc: Global, links: &[Link]) -> Result<Vec<usize>, Memory> {
 }
 
 /// Of each production those that it uses, without the places.
-pub fn targets(alloc: Global, uses: &[Vec<Link>]) -> Result<Vec<Vec<usize>>, Memory> {
+pub(crate) fn targets(alloc: Global, uses: &[Vec<Link>]) -> Result<Vec<Vec<usize>>, Memory> {
     let mut lists = Vec::new(alloc);
     for links in uses {
         lists.push(targets_of(alloc, links.as_slice())?)?;

@@ -36,7 +36,7 @@ fn drop_unused(graph: &Graph, live: &mut Vec<bool>, number: usize)
 }
 
 /// Takes the marks from productions that no marked ones use, one after another.
-pub fn prune(graph: &Graph, order: &[usize], live: &mut Vec<bool>)
+pub(crate) fn prune(graph: &Graph, order: &[usize], live: &mut Vec<bool>)
     requires users { AreUsers graph.now.uses.items graph.now.users.items }
     requires closed { IsClosed graph.now.uses.items }
     requires size { length live.old.items ≡ length graph.now.uses.items }
@@ -127,7 +127,11 @@ fn improved(
 }
 
 /// The least use at which some production is part of a recursion. Only marked ones may be.
-pub fn least_recursion(alloc: Global, graph: &Graph, live: &[bool]) -> Result<Option<Span>, Memory>
+pub(crate) fn least_recursion(
+    alloc: Global,
+    graph: &Graph,
+    live: &[bool],
+) -> Result<Option<Span>, Memory>
     requires users { AreUsers graph.now.uses.items graph.now.users.items }
     requires closed { IsClosed graph.now.uses.items }
     requires size { length live.now ≡ length graph.now.uses.items }

@@ -24,14 +24,14 @@ use pbs_base::{Memory, Span};
 use std::alloc::Global;
 
 /// A name declared twice, of whatever kinds, or an action listed twice in one level.
-pub fn rule_5(alloc: Global, spec: &Spec) -> Result<Option<Span>, Memory>
+pub(crate) fn rule_5(alloc: Global, spec: &Spec) -> Result<Option<Span>, Memory>
     ensures { IfOk result (IsLeast (Rule5 spec.now)) }
 {
     found_twice(alloc, spec)
 }
 
 /// A name that is used and not declared.
-pub fn rule_6(tables: &Tables, spec: &Spec) -> Option<Span>
+pub(crate) fn rule_6(tables: &Tables, spec: &Spec) -> Option<Span>
     requires { IsTables spec.now tables.now }
     ensures { IsLeast (Rule6 spec.now) result }
 {
@@ -39,7 +39,7 @@ pub fn rule_6(tables: &Tables, spec: &Spec) -> Option<Span>
 }
 
 /// A name of the wrong kind.
-pub fn rule_7(tables: &Tables, spec: &Spec) -> Option<Span>
+pub(crate) fn rule_7(tables: &Tables, spec: &Spec) -> Option<Span>
     requires { IsTables spec.now tables.now }
     ensures { IsLeast (Rule7 spec.now) result }
 {
@@ -47,28 +47,28 @@ pub fn rule_7(tables: &Tables, spec: &Spec) -> Option<Span>
 }
 
 /// More than 64 input bits, actions or levels.
-pub fn rule_11(spec: &Spec) -> Option<Span>
+pub(crate) fn rule_11(spec: &Spec) -> Option<Span>
     ensures { IsLeast (Rule11 spec.now) result }
 {
     found_over(spec)
 }
 
 /// A comparison whose number needs more bits than the bus has.
-pub fn rule_18(tables: &Tables, spec: &Spec) -> Option<Span>
+pub(crate) fn rule_18(tables: &Tables, spec: &Spec) -> Option<Span>
     ensures { IsLeast (Rule18 spec.now) result }
 {
     found_in(Look::Numbers, tables, spec)
 }
 
 /// A repetition whose numbers are wrong.
-pub fn rule_19(tables: &Tables, spec: &Spec) -> Option<Span>
+pub(crate) fn rule_19(tables: &Tables, spec: &Spec) -> Option<Span>
     ensures { IsLeast (Rule19 spec.now) result }
 {
     found_in(Look::Copies, tables, spec)
 }
 
 /// Productions that use each other. Those of which something is known don't.
-pub fn rule_8(
+pub(crate) fn rule_8(
     alloc: Global,
     graph: &Graph,
     tables: &Tables,
@@ -88,7 +88,7 @@ pub fn rule_8(
 }
 
 /// A star or plus whose body may be empty.
-pub fn rule_9(tables: &Tables, spec: &Spec) -> Option<Span>
+pub(crate) fn rule_9(tables: &Tables, spec: &Spec) -> Option<Span>
     requires { IsKnown spec.now tables.now }
     ensures { IsLeast (Rule9 spec.now) result }
 {
@@ -96,7 +96,7 @@ pub fn rule_9(tables: &Tables, spec: &Spec) -> Option<Span>
 }
 
 /// A scope with a trap that may be empty or has actions or scopes, or with a body without terminals.
-pub fn rule_10(tables: &Tables, spec: &Spec) -> Option<Span>
+pub(crate) fn rule_10(tables: &Tables, spec: &Spec) -> Option<Span>
     requires { IsKnown spec.now tables.now }
     ensures { IsLeast (Rule10 spec.now) result }
 {

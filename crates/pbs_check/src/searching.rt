@@ -14,7 +14,7 @@ pub struct Search {
 }
 
 /// The mark of that number, false where there is none.
-pub fn is_marked(marks: &[bool], number: usize) -> bool
+pub(crate) fn is_marked(marks: &[bool], number: usize) -> bool
     ensures { result ≡ slice_index_or marks.now number false }
 {
     if number < marks.len() {
@@ -87,7 +87,7 @@ fn start(alloc: Global, count: usize) -> Result<Search, Memory>
 }
 
 /// Marks all productions from which one can be reached by uses of live ones.
-pub fn reaching(
+pub(crate) fn reaching(
     alloc: Global,
     users: &[Vec<usize>],
     live: &[bool],

@@ -80,7 +80,7 @@ fn learn_in_order(
 }
 
 /// What can be learnt of productions. Where the order is right, one more round over all of them ends it.
-pub fn settle(alloc: Global, prods: &Prods, order: &[usize]) -> Result<Known, Memory>
+pub(crate) fn settle(alloc: Global, prods: &Prods, order: &[usize]) -> Result<Known, Memory>
     requires { AreFirst prods.now }
     ensures settles { IfOk result (λ known. Settles prods.now (known_of known)) }
     ensures stuck { IfOk result (λ known. IsStuck prods.now (known_of known)) }
@@ -92,7 +92,11 @@ pub fn settle(alloc: Global, prods: &Prods, order: &[usize]) -> Result<Known, Me
 }
 
 /// Marks the productions of which nothing is known.
-pub fn unknown_prods(alloc: Global, known: &Known, prods: &Prods) -> Result<Vec<bool>, Memory>
+pub(crate) fn unknown_prods(
+    alloc: Global,
+    known: &Known,
+    prods: &Prods,
+) -> Result<Vec<bool>, Memory>
     ensures { IfOk result (λ marks. marks.items ≡ map (λ p. not (is_some (known_of known.now p.name))) prods.now) }
 {
     let mut marks = Vec::new(alloc);

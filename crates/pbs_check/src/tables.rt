@@ -33,7 +33,7 @@ fn bus_words(alloc: Global, inputs: &Decls) -> Result<Vec<Word>, Memory>
     Ok(words)
 }
 
-pub fn tables_of(alloc: Global, spec: &Spec) -> Result<Tables, Memory>
+pub(crate) fn tables_of(alloc: Global, spec: &Spec) -> Result<Tables, Memory>
     ensures { IfOk result (IsTables spec.now) }
 {
     let names = declared_names(alloc, spec)?;

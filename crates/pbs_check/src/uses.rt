@@ -63,7 +63,7 @@ fn kind_numbers<'a>(tables: &'a Tables, wanted: Wanted) -> &'a Numbers
     }
 }
 
-pub fn name_broken(
+pub(crate) fn name_broken(
     look: Look,
     tables: &Tables,
     wanted: Wanted,
@@ -285,7 +285,7 @@ fn parts_broken(look: Look, tables: &Tables, inputs: &Decls, expr: &Expr) -> Opt
 
 /// The least place in an expression that breaks the rule.
 #[cycle(expr)]
-pub fn expr_broken(look: Look, tables: &Tables, inputs: &Decls, expr: &Expr) -> Option<Span>
+pub(crate) fn expr_broken(look: Look, tables: &Tables, inputs: &Decls, expr: &Expr) -> Option<Span>
     ensures { result ≡ least_by (own_broken look tables.now inputs.now) (inside expr.now) }
 {
     least_of(

@@ -41,7 +41,7 @@ fn levels_broken(look: Look, tables: &Tables, levels: &Levels) -> Option<Span>
 }
 
 /// The least place in the specification that breaks the rule.
-pub fn found_in(look: Look, tables: &Tables, spec: &Spec) -> Option<Span>
+pub(crate) fn found_in(look: Look, tables: &Tables, spec: &Spec) -> Option<Span>
     ensures { result ≡ found_in look tables.now spec.now }
 {
     let prods = prods_broken(look, tables, &spec.inputs, &spec.prods);
