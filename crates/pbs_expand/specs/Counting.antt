@@ -1,24 +1,7 @@
 -- What is counted, and the limits.
-use Rattle.std.specs.Prelude.{Bool, ◌+◌, ◌≤◌, nat_le, ◌&&◌, if◌then◌else◌, Result, Ok, Err}
-use Rattle.pbs_base.specs.declared.refusal.Span.{Span}
+use Rattle.std.specs.Prelude.{Bool, ◌+◌, nat_le, ◌&&◌}
 use Rattle.bool_terms.specs.Terms.{Term, term_nodes}
 use Rattle.pbs_expand.specs.declared.build.Counters.{Counters}
-use Rattle.pbs_expand.specs.declared.build.Stop.{Stop}
-use Rattle.pbs_expand.specs.declared.build.Stop.TheVariants.{Over}
-
--- no limit is passed, and each node and each scope has taken a count
-pub record IsWithin (c : Counters) : Type 0 where
-  pub counts : c.counts ≤ 32768
-  pub places : c.places ≤ 4096
-  pub nodes : c.nodes ≤ c.counts
-  pub scopes : c.scopes ≤ c.counts
-
--- what one visit may take
-pub record IsCost (c : Counters) : Type 0 where
-  pub counts : c.counts ≤ 32769
-  pub places : c.places ≤ 1
-  pub nodes : c.nodes ≤ c.counts
-  pub scopes : c.scopes ≤ c.counts
 
 abbrev pub name_cost : Counters
 name_cost = record { counts = 1; nodes = 0; places = 0; scopes = 0 }
@@ -48,7 +31,3 @@ sum_of a b = record {
 -- no limit is passed with the visit
 abbrev pub fits : Counters → Counters → Bool
 fits before cost = nat_le (before.counts + cost.counts) 32768 && nat_le (before.places + cost.places) 4096
-
--- a visit is counted, unless a limit is passed
-abbrev pub enter : Span → Counters → Counters → Result Counters Stop
-enter span cost before = if fits before cost then Ok (sum_of before cost) else Err (Over span)

@@ -1,4 +1,5 @@
--- The index of a specification that has few enough inputs and actions.
+-- Inner definitions, which no public clause cites: the index of a specification that has few enough inputs
+-- and actions.
 use Rattle.std.specs.Prelude.{◌≤◌, length}
 use Rattle.pbs_ast.specs.declared.syntax.Spec.{Spec}
 use Rattle.pbs_rules.specs.declared.index.Index.{Index}

@@ -1,17 +1,34 @@
--- What a walk gives: a part of the tree and the counters after it, or the first node at which a limit is passed.
-use Rattle.std.specs.Prelude.{ℕ, ◌≡◌, Result, Ok, Err}
+-- Inner definitions, which no public clause cites: what a walk gives, a part of the tree and the counters
+-- after it, or the first node at which a limit is passed.
+use Rattle.std.specs.Prelude.{◌≡◌, ◌≤◌, if◌then◌else◌, Result, Ok, Err}
 use Rattle.pbs_base.specs.declared.refusal.Span.{Span}
-use Rattle.bool_terms.specs.Terms.{Term}
 use Rattle.pbs_ast.specs.Trees.{Tree, tree_of, spot_of}
 use Rattle.pbs_ast.specs.Trees as trees
-use Rattle.pbs_expand.specs.declared.parts.Pairing.{Pairing}
-use Rattle.pbs_expand.specs.declared.parts.Pairing.TheVariants.{Sequence, Choice}
 use Rattle.pbs_expand.specs.declared.build.Counters.{Counters}
 use Rattle.pbs_expand.specs.declared.build.Grown as built
 use Rattle.pbs_expand.specs.declared.build.Stop.{Stop}
 use Rattle.pbs_expand.specs.declared.build.Stop.TheVariants as stops
-use Rattle.pbs_expand.specs.Counting.{IsWithin, enter, name_cost, node_cost, terminal_cost, hold_cost, scope_cost}
+use Rattle.pbs_expand.specs.Counting.{name_cost, node_cost, terminal_cost, hold_cost, scope_cost, sum_of, fits}
 use Rattle.pbs_expand.specs.Walks.{Walk, Beyond, Empty, Terminal, Action, Name, Star, Hold, Pair, Scope}
+use Rattle.pbs_expand.specs.Visits.{as_star, as_hold, as_pair, as_scope}
+
+-- no limit is passed, and each node and each scope has taken a count
+pub record IsWithin (c : Counters) : Type 0 where
+  pub counts : c.counts ≤ 32768
+  pub places : c.places ≤ 4096
+  pub nodes : c.nodes ≤ c.counts
+  pub scopes : c.scopes ≤ c.counts
+
+-- what one visit may take
+pub record IsCost (c : Counters) : Type 0 where
+  pub counts : c.counts ≤ 32769
+  pub places : c.places ≤ 1
+  pub nodes : c.nodes ≤ c.counts
+  pub scopes : c.scopes ≤ c.counts
+
+-- a visit is counted, unless a limit is passed
+abbrev pub enter : Span → Counters → Counters → Result Counters Stop
+enter span cost before = if fits before cost then Ok (sum_of before cost) else Err (stops.Over span)
 
 pub data Outcome : Type 0 where
   Grown : (tree : Tree) (after : Counters) → Outcome
@@ -35,19 +52,6 @@ with_tree (Over span) node = Over span
 
 abbrev pub as_grown : Tree → Counters → Outcome
 as_grown t c = Grown t c
-
-abbrev pub as_star : Span → ℕ → Tree → Tree
-as_star span n t = trees.Star (spot_of span n) t
-
-abbrev pub as_hold : Span → ℕ → Term → Tree → Tree
-as_hold span n b t = trees.Hold (spot_of span n) b t
-
-abbrev pub as_pair : Span → ℕ → Pairing → Tree → Tree → Tree
-as_pair span n Sequence t u = trees.Seq (spot_of span n) t u
-as_pair span n Choice t u = trees.Choice (spot_of span n) t u
-
-abbrev pub as_scope : Span → ℕ → ℕ → Tree → Tree → Tree → Tree
-as_scope span n s t u v = trees.Scope (spot_of span n) s t u v
 
 abbrev pub outcome : Walk → Counters → Outcome
 outcome (Beyond span) c = Over span

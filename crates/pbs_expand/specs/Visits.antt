@@ -1,12 +1,14 @@
 -- The visits in order, the first that passes a limit, and the numbered tree.
-use Rattle.std.specs.Prelude.{Bool, true, false, not, ◌&&◌, if◌then◌else◌, List, [], ◌∷◌, ◌++◌, Option, Some, None}
+use Rattle.std.specs.Prelude.{ℕ, Bool, true, false, not, ◌&&◌, if◌then◌else◌, List, [], ◌∷◌, ◌++◌, Option, Some, None}
 use Rattle.pbs_base.specs.declared.refusal.Span.{Span}
+use Rattle.bool_terms.specs.Terms.{Term}
 use Rattle.pbs_ast.specs.Trees.{Tree, spot_of}
 use Rattle.pbs_ast.specs.Trees as trees
+use Rattle.pbs_expand.specs.declared.parts.Pairing.{Pairing}
+use Rattle.pbs_expand.specs.declared.parts.Pairing.TheVariants.{Sequence, Choice}
 use Rattle.pbs_expand.specs.declared.build.Counters.{Counters}
 use Rattle.pbs_expand.specs.Counting.{name_cost, node_cost, terminal_cost, hold_cost, scope_cost, sum_of, fits}
 use Rattle.pbs_expand.specs.Walks.{Walk, Beyond, Empty, Terminal, Action, Name, Star, Hold, Pair, Scope}
-use Rattle.pbs_expand.specs.Outcomes.{as_star, as_hold, as_pair, as_scope}
 
 pub record Visit : Type 0 where
   pub span : Span
@@ -37,6 +39,20 @@ after_visits c (v ∷ vs) = after_visits (sum_of c v.cost) vs
 abbrev pub first_over : Counters → List Visit → Option Span
 first_over c [] = None
 first_over c (v ∷ vs) = if not v.too_deep && fits c v.cost then first_over (sum_of c v.cost) vs else Some v.span
+
+-- a node with its parts
+abbrev pub as_star : Span → ℕ → Tree → Tree
+as_star span n t = trees.Star (spot_of span n) t
+
+abbrev pub as_hold : Span → ℕ → Term → Tree → Tree
+as_hold span n b t = trees.Hold (spot_of span n) b t
+
+abbrev pub as_pair : Span → ℕ → Pairing → Tree → Tree → Tree
+as_pair span n Sequence t u = trees.Seq (spot_of span n) t u
+as_pair span n Choice t u = trees.Choice (spot_of span n) t u
+
+abbrev pub as_scope : Span → ℕ → ℕ → Tree → Tree → Tree → Tree
+as_scope span n s t u v = trees.Scope (spot_of span n) s t u v
 
 -- the tree, whose first node has so many nodes, places and scopes before it
 abbrev pub numbered : Walk → Counters → Tree

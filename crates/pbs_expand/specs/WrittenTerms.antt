@@ -1,4 +1,4 @@
--- What the code answers for terms.
+-- Inner definitions, which no public clause cites: what the code answers for terms.
 use Rattle.std.specs.Prelude.{ℕ, ◌≡◌, ◌≤◌, ◌+◌, List, [], ◌∷◌, length, map}
 use Rattle.bool_terms.specs.Terms.{Term, term_of, term_nodes}
 use Rattle.bool_terms.specs.declared.Term as terms

@@ -2,9 +2,10 @@
 
 ghost use Rattle.std.specs.Prelude.{◌≡◌, ◌≤◌};
 ghost use Rattle.pbs_ast.specs.Trees.{tree_of, tree_from, spot_of};
-ghost use Rattle.pbs_expand.specs.Counting.{IsWithin, IsCost, enter};
+ghost use Rattle.pbs_expand.specs.Outcomes.{IsWithin, IsCost, enter};
 ghost use Rattle.pbs_expand.specs.Outcomes.{Outcome, IsOutcome, entered, with_tree};
-ghost use Rattle.pbs_expand.specs.Outcomes.{as_grown, as_star, as_hold, as_pair, as_scope};
+ghost use Rattle.pbs_expand.specs.Outcomes.{as_grown};
+ghost use Rattle.pbs_expand.specs.Visits.{as_star, as_hold, as_pair, as_scope};
 ghost use Rattle.bool_terms.specs.Terms.{term_of};
 
 use crate::parts::Pairing;
@@ -56,7 +57,7 @@ pub struct Grown {
 }
 
 /// Counts a visit, unless a limit is passed.
-pub fn enter(span: Span, cost: Counters, before: Counters) -> Result<Counters, Stop>
+pub(crate) fn enter(span: Span, cost: Counters, before: Counters) -> Result<Counters, Stop>
     requires cost { IsCost cost }
     requires within { IsWithin before }
     ensures { result ≡ enter span cost before }
@@ -74,7 +75,12 @@ pub fn enter(span: Span, cost: Counters, before: Counters) -> Result<Counters, S
 }
 
 /// A node without parts.
-pub fn leaf(span: Span, kind: TreeKind, cost: Counters, before: Counters) -> Result<Grown, Stop>
+pub(crate) fn leaf(
+    span: Span,
+    kind: TreeKind,
+    cost: Counters,
+    before: Counters,
+) -> Result<Grown, Stop>
     requires cost { IsCost cost }
     requires within { IsWithin before }
     ensures { IsOutcome (entered span cost before (as_grown (tree_from span before.nodes kind))) result }
@@ -92,7 +98,7 @@ pub fn leaf(span: Span, kind: TreeKind, cost: Counters, before: Counters) -> Res
     }
 }
 
-pub fn star(
+pub(crate) fn star(
     alloc: Global,
     span: Span,
     number: u32,
@@ -111,7 +117,7 @@ pub fn star(
     })
 }
 
-pub fn hold(
+pub(crate) fn hold(
     alloc: Global,
     span: Span,
     number: u32,
@@ -131,7 +137,7 @@ pub fn hold(
     })
 }
 
-pub fn pair(
+pub(crate) fn pair(
     alloc: Global,
     span: Span,
     number: u32,
@@ -156,7 +162,7 @@ pub fn pair(
     })
 }
 
-pub fn scope(
+pub(crate) fn scope(
     alloc: Global,
     span: Span,
     before: Counters,

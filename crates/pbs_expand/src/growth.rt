@@ -2,7 +2,7 @@
 
 ghost use Rattle.std.specs.Prelude.{◌≡◌};
 ghost use Rattle.pbs_expand.specs.Parts.{part_of};
-ghost use Rattle.pbs_expand.specs.Counting.{IsWithin};
+ghost use Rattle.pbs_expand.specs.Outcomes.{IsWithin};
 ghost use Rattle.pbs_expand.specs.Outcomes.{IsOutcome, outcome};
 ghost use Rattle.pbs_rules.specs.Naming.{action_names, index_of};
 ghost use Rattle.pbs_expand.specs.Numbers.{Serves};
@@ -241,7 +241,7 @@ fn grow_scope(
 
 /// The tree of the part, unless a limit is passed.
 #[cycle(grow)]
-pub fn grow(
+pub(crate) fn grow(
     alloc: Global,
     spec: &Spec,
     index: &Index,

@@ -216,7 +216,7 @@ fn only_part(expr: &Expr) -> &Expr
 }
 
 /// The span of what is visited.
-pub fn part_span(part: Part) -> Span
+pub(crate) fn part_span(part: Part) -> Span
     ensures { result ≡ span_of (part_of part.entry) }
 {
     match part {
@@ -231,7 +231,7 @@ pub fn part_span(part: Part) -> Span
 }
 
 /// The node that is visited, with its parts.
-pub fn parts_of<'a>(prods: &'a Prods, index: &Numbers, part: Part<'a>) -> Shape<'a>
+pub(crate) fn parts_of<'a>(prods: &'a Prods, index: &Numbers, part: Part<'a>) -> Shape<'a>
     requires { IsNumbering (prod_names prods.now) index.now }
     ensures { shape_of result ≡ shape prods.now (part_of part.entry) }
 {

@@ -227,7 +227,7 @@ fn write_items(
 
 /// The term, unless it has more nodes than there is room for.
 #[cycle(write_term)]
-pub fn write_term(
+pub(crate) fn write_term(
     alloc: Global,
     inputs: &Decls,
     index: &Numbers,
