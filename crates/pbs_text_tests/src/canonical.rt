@@ -7,7 +7,8 @@ fn prints(rt: HostRuntime) -> Result<(), Fail> {
     let cases: [(&[u8], &[u8]); 8] = [
         (
             HANDSHAKE,
-            b"spec 1;\ninput req, ack;\naction start, done;\nmain = ([~req]*, [req], {start}, [~ack]*, [ack], {done})*;\n",
+            b"spec 1;\ninput req, ack;\naction start, done;\n\
+              main = ([~req]*, [req], {start}, [~ack]*, [ack], {done})*;\n",
         ),
         (b"spec 1;main=((()));", b"spec 1;\nmain = ();\n"),
         (

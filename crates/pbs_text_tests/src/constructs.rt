@@ -45,10 +45,10 @@ fn lists(rt: HostRuntime) -> Result<(), Fail> {
     Ok(())
 }
 
-// Each construct under each of the four operators.
+// Each construct under `*` and under `+`.
 #[test]
-fn repetitions(rt: HostRuntime) -> Result<(), Fail> {
-    let cases: [(&[u8], &[u8]); 16] = [
+fn stars(rt: HostRuntime) -> Result<(), Fail> {
+    let cases: [(&[u8], &[u8]); 8] = [
         (
             b"spec 1; main = (())*, ([t])*, ({x})*, (p)*;",
             b"spec 1;\nmain = ()*, [t]*, {x}*, p*;\n",
@@ -81,6 +81,17 @@ fn repetitions(rt: HostRuntime) -> Result<(), Fail> {
             b"spec 2; main = (hold [t] : (a))+ | try (a) abort (b) then (c)+ | (a{2,3})+;",
             b"spec 2;\nmain = hold [t] : (a)+ | try (a) abort (b) then (c)+ | (a{2,3})+;\n",
         ),
+    ];
+    for (text, canonical) in cases {
+        assert!(rt; is_canonical(rt.alloc(), text, canonical)?);
+    }
+    Ok(())
+}
+
+// Each construct under `?` and under bounds.
+#[test]
+fn counts(rt: HostRuntime) -> Result<(), Fail> {
+    let cases: [(&[u8], &[u8]); 8] = [
         (
             b"spec 1; main = (((()))?), [t]?, {x}?, (p)?;",
             b"spec 1;\nmain = ()?, [t]?, {x}?, p?;\n",
