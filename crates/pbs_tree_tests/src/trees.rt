@@ -64,9 +64,10 @@ fn halves(rt: HostRuntime) -> Result<(), Fail> {
     Ok(())
 }
 
+// `+`, `?` and the use of a production.
 #[test]
-fn copies(rt: HostRuntime) -> Result<(), Fail> {
-    let cases: [(&[u8], &str); 9] = [
+fn made_nodes(rt: HostRuntime) -> Result<(), Fail> {
+    let cases: [(&[u8], &str); 4] = [
         (
             b"spec 1; input a, b; main = hold [b] : ([a]+);",
             "0 hold 27..44\n1 seq 39..43\n2 place 0 39..42\n3 star 39..43\n4 place 1 39..42\n",
@@ -82,6 +83,17 @@ fn copies(rt: HostRuntime) -> Result<(), Fail> {
              4 action 0 67..70\n5 scope 1 39..71\n6 place 2 44..47\n7 place 3 56..59\n\
              8 action 0 67..70\n",
         ),
+    ];
+    for (text, nodes) in cases {
+        let found = listed(rt.alloc(), text)?;
+        assert_eq!(rt; found.as_str(), nodes);
+    }
+    Ok(())
+}
+
+#[test]
+fn copies(rt: HostRuntime) -> Result<(), Fail> {
+    let cases: [(&[u8], &str); 5] = [
         (
             b"spec 2; input a; main = [a]{2,3};",
             "0 seq 24..32\n1 seq 24..32\n2 place 0 24..27\n3 place 1 24..27\n4 choice 24..32\n\
