@@ -1,11 +1,12 @@
 // What `check` answers.
 use crate::texts::check;
+use pbs_samples::HANDSHAKE;
 use std::test::Fail;
 
 #[test]
 fn accepts(rt: HostRuntime) -> Result<(), Fail> {
     let cases: [&[u8]; 10] = [
-        b"spec 1; input req, ack; action start, done; main = ([~req]*, [req], {start}, [~ack]*, [ack], {done})*;",
+        HANDSHAKE,
         b"spec 1; input req, ack, rst; action start, done, lost; main = (try ([~req]*, [req], {start}, [~ack]*, [ack], {done}) abort ([~rst]*, [rst]) then ({lost}))*;",
         b"spec 1; input a; action start, done; level busy = 0 { start: 1; done: 0; } main = [a], {start}, {done}, [a], {start};",
         b"spec 1; input b; action done, lost; main = try ([~b]*, [b], {done}) abort ([1], [1], [1]) then ({lost});",
@@ -23,8 +24,8 @@ fn accepts(rt: HostRuntime) -> Result<(), Fail> {
 }
 
 #[test]
-fn refuses_worked_rows(rt: HostRuntime) -> Result<(), Fail> {
-    let cases: [(&[u8], &[u8]); 13] = [
+fn refuses_by_each_rule(rt: HostRuntime) -> Result<(), Fail> {
+    let cases: [(&[u8], &[u8]); 7] = [
         (
             b"spec 1; input a; main = ([a]?)*;",
             b"spec refused rule 9 at 25..29\n",
@@ -53,6 +54,16 @@ fn refuses_worked_rows(rt: HostRuntime) -> Result<(), Fail> {
             b"spec 1; input a; main = [a] # x;",
             b"spec refused rule 2 at 28..29\n",
         ),
+    ];
+    for (text, line) in cases {
+        assert!(rt; check(&rt, text, 1, line)?);
+    }
+    Ok(())
+}
+
+#[test]
+fn refuses_numbers_and_sizes(rt: HostRuntime) -> Result<(), Fail> {
+    let cases: [(&[u8], &[u8]); 6] = [
         (
             b"spec 2; input d : 3; main = [d = 8];",
             b"spec refused rule 18 at 33..34\n",
@@ -85,8 +96,8 @@ fn refuses_worked_rows(rt: HostRuntime) -> Result<(), Fail> {
 }
 
 #[test]
-fn refuses_names(rt: HostRuntime) -> Result<(), Fail> {
-    let cases: [(&[u8], &[u8]); 9] = [
+fn refuses_second_names(rt: HostRuntime) -> Result<(), Fail> {
+    let cases: [(&[u8], &[u8]); 4] = [
         (
             b"spec 1; input a; action x, a; main = ();",
             b"spec refused rule 5 at 27..28\n",
@@ -103,6 +114,16 @@ fn refuses_names(rt: HostRuntime) -> Result<(), Fail> {
             b"spec 1; action x; prod p = (); prod p = (); main = ();",
             b"spec refused rule 5 at 36..37\n",
         ),
+    ];
+    for (text, line) in cases {
+        assert!(rt; check(&rt, text, 1, line)?);
+    }
+    Ok(())
+}
+
+#[test]
+fn refuses_uses(rt: HostRuntime) -> Result<(), Fail> {
+    let cases: [(&[u8], &[u8]); 5] = [
         (
             b"spec 1; prod p = q; main = ();",
             b"spec refused rule 6 at 17..18\n",

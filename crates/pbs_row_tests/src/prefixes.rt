@@ -1,9 +1,7 @@
 // The first bytes of the handshake's text: none but the whole is accepted.
 use crate::texts::check;
+use pbs_samples::HANDSHAKE;
 use std::test::Fail;
-
-const HANDSHAKE: &[u8] =
-    b"spec 1; input req, ack; action start, done; main = ([~req]*, [req], {start}, [~ack]*, [ack], {done})*;";
 
 // The line for the first so many bytes, where it stands in the table.
 fn line_of(count: usize) -> Option<&'static [u8]> {

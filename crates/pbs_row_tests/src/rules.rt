@@ -6,7 +6,7 @@ use std::test::Fail;
 // Rule 5.
 #[test]
 fn declared_twice(rt: HostRuntime) -> Result<(), Fail> {
-    let cases: [(&[u8], &[u8]); 11] = [
+    let cases: [(&[u8], &[u8]); 7] = [
         (
             b"spec 1; action a; input a; main = [b];",
             b"spec refused rule 5 at 24..25\n",
@@ -35,6 +35,17 @@ fn declared_twice(rt: HostRuntime) -> Result<(), Fail> {
             b"spec 1; level a = 0 { } prod a = (); main = ();",
             b"spec refused rule 5 at 29..30\n",
         ),
+    ];
+    for (text, line) in cases {
+        assert!(rt; check(&rt, text, 1, line)?);
+    }
+    Ok(())
+}
+
+// Rule 5, where a bus is declared beside the names of its bits.
+#[test]
+fn bits_declared_twice(rt: HostRuntime) -> Result<(), Fail> {
+    let cases: [(&[u8], &[u8]); 4] = [
         (
             b"spec 2; input d_1, d : 2; main = ();",
             b"spec refused rule 5 at 19..20\n",
@@ -101,10 +112,10 @@ fn not_declared(rt: HostRuntime) -> Result<(), Fail> {
     Ok(())
 }
 
-// Rule 7.
+// Rule 7 in terms, in braces and in expressions.
 #[test]
 fn wrong_kinds(rt: HostRuntime) -> Result<(), Fail> {
-    let cases: [(&[u8], &[u8]); 14] = [
+    let cases: [(&[u8], &[u8]); 7] = [
         (
             b"spec 1; action x; main = [x];",
             b"spec refused rule 7 at 26..27\n",
@@ -133,6 +144,17 @@ fn wrong_kinds(rt: HostRuntime) -> Result<(), Fail> {
             b"spec 1; level l = 0 { } main = l*;",
             b"spec refused rule 7 at 31..32\n",
         ),
+    ];
+    for (text, line) in cases {
+        assert!(rt; check(&rt, text, 1, line)?);
+    }
+    Ok(())
+}
+
+// Rule 7 in the lists of levels.
+#[test]
+fn wrong_kinds_in_levels(rt: HostRuntime) -> Result<(), Fail> {
+    let cases: [(&[u8], &[u8]); 3] = [
         (
             b"spec 1; input a; level l = 0 { a: 1; } main = a;",
             b"spec refused rule 7 at 31..32\n",
@@ -145,6 +167,17 @@ fn wrong_kinds(rt: HostRuntime) -> Result<(), Fail> {
             b"spec 1; prod p = (); level l = 0 { p: 1; } main = ();",
             b"spec refused rule 7 at 35..36\n",
         ),
+    ];
+    for (text, line) in cases {
+        assert!(rt; check(&rt, text, 1, line)?);
+    }
+    Ok(())
+}
+
+// Rule 7, with buses.
+#[test]
+fn wrong_kinds_of_buses(rt: HostRuntime) -> Result<(), Fail> {
+    let cases: [(&[u8], &[u8]); 4] = [
         (
             b"spec 2; input d : 1; main = hold [~d] : ([d]);",
             b"spec refused rule 7 at 35..36\n",
@@ -214,7 +247,7 @@ fn recursion(rt: HostRuntime) -> Result<(), Fail> {
 // Rule 9.
 #[test]
 fn empty_bodies(rt: HostRuntime) -> Result<(), Fail> {
-    let cases: [(&[u8], &[u8]); 9] = [
+    let cases: [(&[u8], &[u8]); 5] = [
         (
             b"spec 1; main = ()*, ()+;",
             b"spec refused rule 9 at 15..17\n",
@@ -235,6 +268,17 @@ fn empty_bodies(rt: HostRuntime) -> Result<(), Fail> {
             b"spec 1; input a; prod p = q, [a]?; prod q = [a]*; main = p+;",
             b"spec refused rule 9 at 57..58\n",
         ),
+    ];
+    for (text, line) in cases {
+        assert!(rt; check(&rt, text, 1, line)?);
+    }
+    Ok(())
+}
+
+// Rule 9 behind holds, scopes and bounded repetitions.
+#[test]
+fn empty_constructs(rt: HostRuntime) -> Result<(), Fail> {
+    let cases: [(&[u8], &[u8]); 4] = [
         (
             b"spec 1; input a; main = (hold [a] : ([a]?))*;",
             b"spec refused rule 9 at 25..42\n",
@@ -408,7 +452,7 @@ fn accepts_neighbours(rt: HostRuntime) -> Result<(), Fail> {
 // Rule 11: 65 inputs, actions and levels, and 64 of each.
 #[test]
 fn too_many(rt: HostRuntime) -> Result<(), Fail> {
-    let cases: [(&[u8], &[u8], &[u8], &[u8], &[u8]); 5] = [
+    let cases: [(&[u8], &[u8], &[u8], &[u8], &[u8]); 3] = [
         (
             b"spec 1; input z",
             b", a",
@@ -430,6 +474,20 @@ fn too_many(rt: HostRuntime) -> Result<(), Fail> {
             b"main = ();",
             b"spec refused rule 11 at 1154..1157\n",
         ),
+    ];
+    for (front, before, after, back, line) in cases {
+        let fits = numbered(rt.alloc(), front, before, 63, after, back)?;
+        assert!(rt; check(&rt, fits.as_slice(), 0, b"accepted\n")?);
+        let more = numbered(rt.alloc(), front, before, 64, after, back)?;
+        assert!(rt; check(&rt, more.as_slice(), 1, line)?);
+    }
+    Ok(())
+}
+
+// The same where one of the inputs is a bus of one bit, or its bit is named before them.
+#[test]
+fn too_many_with_buses(rt: HostRuntime) -> Result<(), Fail> {
+    let cases: [(&[u8], &[u8], &[u8], &[u8], &[u8]); 2] = [
         (
             b"spec 2; input d : 1",
             b", a",
@@ -457,7 +515,7 @@ fn too_many(rt: HostRuntime) -> Result<(), Fail> {
 // A bus counts as its bits.
 #[test]
 fn too_many_bits(rt: HostRuntime) -> Result<(), Fail> {
-    let cases: [(&[u8], &[u8], u32, &[u8], &[u8], u8, &[u8]); 6] = [
+    let cases: [(&[u8], &[u8], u32, &[u8], &[u8], u8, &[u8]); 4] = [
         (
             b"spec 2; input z",
             b", a",
@@ -494,6 +552,18 @@ fn too_many_bits(rt: HostRuntime) -> Result<(), Fail> {
             1,
             b"spec refused rule 11 at 77..78\n",
         ),
+    ];
+    for (front, before, count, after, back, status, line) in cases {
+        let text = numbered(rt.alloc(), front, before, count, after, back)?;
+        assert!(rt; check(&rt, text.as_slice(), status, line)?);
+    }
+    Ok(())
+}
+
+// Rule 11 yields to rule 10, and is told before rule 18.
+#[test]
+fn too_many_beside_others(rt: HostRuntime) -> Result<(), Fail> {
+    let cases: [(&[u8], &[u8], u32, &[u8], &[u8], u8, &[u8]); 2] = [
         (
             b"spec 1; input z",
             b", a",

@@ -46,9 +46,8 @@ pub(crate) fn trace(
     answers(rt, &["trace", "s", "t"], spec, trace, status, text)
 }
 
-/// `front`, then a production `NAME0 = first` and productions `NAMEk = step` for k from 1 to the count, in which
-/// `NAMEj`
-/// with j one less stands at each `%`, and then `back`.
+/// `front`, then the production `p0 = first` and productions `pK = step` for K from 1 to the count, in which `pJ` with J
+/// one less stands at each `%`, and then `back`.
 pub(crate) fn chain(
     alloc: Global,
     front: &[u8],

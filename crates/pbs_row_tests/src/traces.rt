@@ -1,9 +1,7 @@
 // What `trace` answers.
 use crate::texts::trace;
+use pbs_samples::HANDSHAKE;
 use std::test::Fail;
-
-const HANDSHAKE: &[u8] =
-    b"spec 1; input req, ack; action start, done; main = ([~req]*, [req], {start}, [~ack]*, [ack], {done})*;";
 
 const RESTART: &[u8] =
     b"spec 1; input req, ack, rst; action start, done, lost; main = (try ([~req]*, [req], {start}, [~ack]*, [ack], {done}) abort ([~rst]*, [rst]) then ({lost}))*;";
@@ -33,7 +31,7 @@ fn handshake(rt: HostRuntime) -> Result<(), Fail> {
 
 #[test]
 fn reports(rt: HostRuntime) -> Result<(), Fail> {
-    let cases: [(&[u8], &[u8], &[u8]); 11] = [
+    let cases: [(&[u8], &[u8], &[u8]); 5] = [
         (
             b"spec 1; input a; action x, y; main = {x}, [a], {y};",
             b"trace i_a\n1\n",
@@ -59,6 +57,16 @@ fn reports(rt: HostRuntime) -> Result<(), Fail> {
             b"trace i_a i_b i_c\n100\n010\n",
             b"0 -\n1 -\n2 a_x\nend 2\n",
         ),
+    ];
+    for (spec, rows, report) in cases {
+        assert!(rt; trace(&rt, spec, rows, 0, report)?);
+    }
+    Ok(())
+}
+
+#[test]
+fn reports_repetitions_and_buses(rt: HostRuntime) -> Result<(), Fail> {
+    let cases: [(&[u8], &[u8], &[u8]); 3] = [
         (
             b"spec 2; input a; action x; main = [a]{2,3}, {x};",
             b"trace i_a\n1\n1\n1\n1\n",
@@ -74,6 +82,17 @@ fn reports(rt: HostRuntime) -> Result<(), Fail> {
             b"trace i_a\n1\n1\n0\n",
             b"0 -\n1 a_x a_y\n2 a_x a_y\n3 -\nend 3\n",
         ),
+    ];
+    for (spec, rows, report) in cases {
+        assert!(rt; trace(&rt, spec, rows, 0, report)?);
+    }
+    Ok(())
+}
+
+// No inputs, another order of the ports, and no last newline.
+#[test]
+fn reports_borders(rt: HostRuntime) -> Result<(), Fail> {
+    let cases: [(&[u8], &[u8], &[u8]); 3] = [
         (
             b"spec 1; main = ();",
             b"trace\n\n\n",
