@@ -1,5 +1,5 @@
-//! Tests of the public calls of all crates with ample memory. Each expected value is worked out by hand or stands in
-//! docs/.
+//! Tests of `run` and its statuses, and of the calls of the lowest crates, with ample memory. Each expected value is
+//! worked out by hand or stands in docs/.
 #![tactic(auto)]
 
 #[cfg(test)]

@@ -7,7 +7,7 @@ const PAIR: &[u8] = b"spec 1; input a, b; action x; main = [a], [~b], {x};";
 
 #[test]
 fn reports(rt: HostRuntime) -> Result<(), Fail> {
-    let cases: [(&[u8], &[u8], u8, &[u8]); 8] = [
+    let cases: [(&[u8], &[u8], u8, &[u8]); 4] = [
         (SEQUENCE, ONE, 0, b"0 a_x\n1 a_y\nend 1\n"),
         (SEQUENCE, b"trace i_a\n", 0, b"0 a_x\nend 0\n"),
         (
@@ -22,6 +22,23 @@ fn reports(rt: HostRuntime) -> Result<(), Fail> {
             0,
             b"0 a_x\n1 a_y\n2 a_x\n3 a_y\nend 3\n",
         ),
+    ];
+    for (spec, trace, status, text) in cases {
+        let words = words(rt.alloc(), &["trace", "s", "t"])?;
+        let mut shelf = shelf(&rt, 5, spec, trace)?;
+        let mut out = sink(&rt, 200, 3)?;
+        assert_eq!(rt;
+            run(rt.alloc(), words.as_slice(), &mut shelf, &mut out),
+            status
+        );
+        assert_eq!(rt; out.bytes(), text);
+    }
+    Ok(())
+}
+
+#[test]
+fn reports_pairs(rt: HostRuntime) -> Result<(), Fail> {
+    let cases: [(&[u8], &[u8], u8, &[u8]); 4] = [
         (
             PAIR,
             b"trace i_a i_b\n10\n00\n",
