@@ -46,10 +46,10 @@ fn forms(rt: HostRuntime) -> Result<(), Fail> {
     Ok(())
 }
 
-// The first name that is unknown or repeated is refused, and else the end of the line where one is missing.
+// The first name that is unknown or repeated is refused.
 #[test]
 fn names(rt: HostRuntime) -> Result<(), Fail> {
-    let cases: [(&[u8], &[u8]); 15] = [
+    let cases: [(&[u8], &[u8]); 12] = [
         (
             b"trace i_req i_req\n00\n",
             b"trace refused rule 2 at 12..17\n",
@@ -83,6 +83,19 @@ fn names(rt: HostRuntime) -> Result<(), Fail> {
             b"trace i_req i_ack\r\n",
             b"trace refused rule 2 at 12..18\n",
         ),
+    ];
+    for (header, text) in cases {
+        let (status, out) = answer(&rt, &["trace", "s", "t"], HANDSHAKE, header)?;
+        assert_eq!(rt; out.bytes(), text);
+        assert_eq!(rt; status, 1);
+    }
+    Ok(())
+}
+
+// Where a name is missing, the place is the end of the line.
+#[test]
+fn missing_names(rt: HostRuntime) -> Result<(), Fail> {
+    let cases: [(&[u8], &[u8]); 3] = [
         (b"trace i_ack\n0\n", b"trace refused rule 2 at 11..11\n"),
         (b"trace i_req", b"trace refused rule 2 at 11..11\n"),
         (b"trace\n\n", b"trace refused rule 2 at 5..5\n"),

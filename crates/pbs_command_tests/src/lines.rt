@@ -27,8 +27,8 @@ fn good(rt: HostRuntime) -> Result<(), Fail> {
 
 // The line of row 0 stands, and those of the rows in front of the refused one.
 #[test]
-fn refused(rt: HostRuntime) -> Result<(), Fail> {
-    let cases: [(&[u8], &[u8]); 16] = [
+fn wrong_lengths(rt: HostRuntime) -> Result<(), Fail> {
+    let cases: [(&[u8], &[u8]); 6] = [
         (
             b"trace i_req i_ack\n0\n",
             b"0 -\ntrace refused rule 3 at 19..20\n",
@@ -53,6 +53,18 @@ fn refused(rt: HostRuntime) -> Result<(), Fail> {
             b"trace i_req i_ack\n0",
             b"0 -\ntrace refused rule 3 at 19..19\n",
         ),
+    ];
+    for (trace, text) in cases {
+        let (status, out) = answer(&rt, &["trace", "s", "t"], HANDSHAKE, trace)?;
+        assert_eq!(rt; out.bytes(), text);
+        assert_eq!(rt; status, 1);
+    }
+    Ok(())
+}
+
+#[test]
+fn wrong_bytes(rt: HostRuntime) -> Result<(), Fail> {
+    let cases: [(&[u8], &[u8]); 7] = [
         (
             b"trace i_req i_ack\n0 0\n",
             b"0 -\ntrace refused rule 3 at 19..20\n",
@@ -81,6 +93,18 @@ fn refused(rt: HostRuntime) -> Result<(), Fail> {
             b"trace i_req i_ack\nR\n",
             b"0 -\ntrace refused rule 3 at 18..19\n",
         ),
+    ];
+    for (trace, text) in cases {
+        let (status, out) = answer(&rt, &["trace", "s", "t"], HANDSHAKE, trace)?;
+        assert_eq!(rt; out.bytes(), text);
+        assert_eq!(rt; status, 1);
+    }
+    Ok(())
+}
+
+#[test]
+fn behind_good_rows(rt: HostRuntime) -> Result<(), Fail> {
+    let cases: [(&[u8], &[u8]); 3] = [
         (
             b"trace i_req i_ack\n00\n\n",
             b"0 -\n1 -\ntrace refused rule 3 at 21..22\n",

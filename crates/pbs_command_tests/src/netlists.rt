@@ -6,6 +6,9 @@ use std::test::Fail;
 const DELAY: &[u8] =
     b"module m (clk, rst, t, y); input clk, rst, t; output y; reg p, q; always @(posedge clk) p <= t; always @(posedge clk) q <= p; buf (y, q); endmodule";
 
+const SWITCH: &[u8] =
+    b"module m (clk, rst, z, y); input clk, rst; output y, z; buf (y, rst); buf (z, rst); endmodule";
+
 // No file `none` is there: the trace isn't opened.
 #[test]
 fn refused(rt: HostRuntime) -> Result<(), Fail> {
@@ -30,10 +33,8 @@ fn refused(rt: HostRuntime) -> Result<(), Fail> {
 
 // Registers are 0 before the first row. In a row with a reset the inputs are 0, and no register is set by it.
 #[test]
-fn reports(rt: HostRuntime) -> Result<(), Fail> {
-    let switch: &[u8] =
-        b"module m (clk, rst, z, y); input clk, rst; output y, z; buf (y, rst); buf (z, rst); endmodule";
-    let cases: [(&[u8], &[u8], u8, &[u8]); 8] = [
+fn delays(rt: HostRuntime) -> Result<(), Fail> {
+    let cases: [(&[u8], &[u8], u8, &[u8]); 5] = [
         (
             DELAY,
             b"trace t\n1\n0\n0\n",
@@ -59,14 +60,26 @@ fn reports(rt: HostRuntime) -> Result<(), Fail> {
             b"0 -\n1 -\ntrace refused rule 3 at 10..11\n",
         ),
         (DELAY, b"trace y\n1\n", 1, b"trace refused rule 2 at 6..7\n"),
-        (switch, b"trace\n\nr\n", 0, b"0 z y\n1 -\n2 z y\nend 2\n"),
+    ];
+    for (netlist, trace, status, text) in cases {
+        let (found, out) = answer(&rt, &["sim", "s", "t"], netlist, trace)?;
+        assert_eq!(rt; out.bytes(), text);
+        assert_eq!(rt; found, status);
+    }
+    Ok(())
+}
+
+#[test]
+fn resets(rt: HostRuntime) -> Result<(), Fail> {
+    let cases: [(&[u8], &[u8], u8, &[u8]); 3] = [
+        (SWITCH, b"trace\n\nr\n", 0, b"0 z y\n1 -\n2 z y\nend 2\n"),
         (
-            switch,
+            SWITCH,
             b"trace rst\n1\n",
             1,
             b"trace refused rule 2 at 6..9\n",
         ),
-        (switch, b"trace", 0, b"0 z y\nend 0\n"),
+        (SWITCH, b"trace", 0, b"0 z y\nend 0\n"),
     ];
     for (netlist, trace, status, text) in cases {
         let (found, out) = answer(&rt, &["sim", "s", "t"], netlist, trace)?;
