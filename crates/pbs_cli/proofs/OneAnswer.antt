@@ -11,7 +11,7 @@ use Rattle.pbs_engine.specs.Accepted.{Breaks, IsAccepted}
 use Rattle.pbs_engine.specs.Outcomes.{TextGives}
 use Rattle.pbs_cli.specs.Words.{Command, Check, Compile, Sim, Trace, Usage}
 use Rattle.pbs_cli.specs.Answers.{Answer, refused, ended, Checks, OnAccepted, OnBroken, Traces, OnOutcome, Defines}
-use Rattle.pbs_cli.specs.Answers.{Simulates, OnNetlist, OnBadNetlist, IsWired}
+use Rattle.pbs_cli.specs.Answers.{Simulates, OnNetlist, OnBadNetlist}
 use Rattle.pbs_cli.proofs.OneRun as run
 
 -- the laws of what is accepted, of what a netlist stands for and of what a trace gives
@@ -23,6 +23,7 @@ pub record OneEach : Type 0 where
   pub bad_net : (text : List ℕ) (r s : Refusal) → vlog.IsRefusedBy text r → vlog.IsRefusedBy text s → r ≡ s
   pub net_apart : (text : List ℕ) (a : Circuit) (r : Refusal) → vlog.StandsFor text a → vlog.IsRefusedBy text r → ⊥
   pub row : (net : Circuit) → IsCircuit net → HasOneAssignment net
+  pub wired : (text : List ℕ) (net : Circuit) → vlog.StandsFor text net → IsCircuit net
 
 one_check : OneEach → (text : List ℕ) (a b : Answer) → Checks text a → Checks text b → a ≡ b
 one_check one text a b (OnAccepted spec p) (OnAccepted other q) = refl
@@ -34,26 +35,25 @@ one_trace : OneEach → (text trace : List ℕ) (a b : Answer) → Traces text t
 one_trace one text trace a b (OnOutcome o p) (OnOutcome other q) =
     ap (λ (x : Outcome). ended x.lines x.refusal) (one.outcome text trace o other p q)
 
-one_sim : OneEach → (netlist trace : List ℕ) → ((net : Circuit) → vlog.StandsFor netlist net → IsCircuit net)
-    → (a b : Answer) → Simulates netlist trace a → Simulates netlist trace b → a ≡ b
-one_sim one netlist trace wired a b (OnNetlist net p o given) (OnNetlist other q o_too given_too) =
+one_sim : OneEach → (netlist trace : List ℕ) → (a b : Answer) → Simulates netlist trace a → Simulates netlist trace b → a ≡ b
+one_sim one netlist trace a b (OnNetlist net p o given) (OnNetlist other q o_too given_too) =
     let here = subst (λ c. NetGives c trace o) (one.net netlist net other p q) given in
-    let ok = wired other q in
+    let ok = one.wired netlist other q in
     ap (λ (x : Outcome). ended x.lines x.refusal)
     (run.one_outcome other ok (one.row other ok) trace o o_too here given_too)
-one_sim one netlist trace wired a b (OnNetlist net p o given) (OnBadNetlist {r} q) =
+one_sim one netlist trace a b (OnNetlist net p o given) (OnBadNetlist {r} q) =
     absurd (one.net_apart netlist net r p q)
-one_sim one netlist trace wired a b (OnBadNetlist {r} p) (OnNetlist net q o given) =
+one_sim one netlist trace a b (OnBadNetlist {r} p) (OnNetlist net q o given) =
     absurd (one.net_apart netlist net r q p)
-one_sim one netlist trace wired a b (OnBadNetlist p) (OnBadNetlist q) = ap refused (one.bad_net netlist _ _ p q)
+one_sim one netlist trace a b (OnBadNetlist p) (OnBadNetlist q) = ap refused (one.bad_net netlist _ _ p q)
 
 pub one_defined : OneEach → (command : Command) (files : List NamedFile) (a b : Answer)
-    → ((spec : List ℕ) → command ≢ Compile spec) → IsWired command files → Defines command files a
+    → ((spec : List ℕ) → command ≢ Compile spec) → Defines command files a
     → Defines command files b → a ≡ b
-one_defined one (Check spec) files a b other wired p q = one_check one (content_of files spec) a b p q
-one_defined one (Compile spec) files a b other wired p q = absurd (other spec refl)
-one_defined one (Sim netlist trace) files a b other wired p q =
-    one_sim one (content_of files netlist) (content_of files trace) wired a b p q
-one_defined one (Trace spec trace) files a b other wired p q =
+one_defined one (Check spec) files a b other p q = one_check one (content_of files spec) a b p q
+one_defined one (Compile spec) files a b other p q = absurd (other spec refl)
+one_defined one (Sim netlist trace) files a b other p q =
+    one_sim one (content_of files netlist) (content_of files trace) a b p q
+one_defined one (Trace spec trace) files a b other p q =
     one_trace one (content_of files spec) (content_of files trace) a b p q
-one_defined one Usage files a b other wired p q = p ∙ sym q
+one_defined one Usage files a b other p q = p ∙ sym q

@@ -6,7 +6,7 @@ use Rattle.pbs_base.specs.Outside.{ShelfState, SinkState, NamedFile, Rose, conte
 use Rattle.pbs_base.specs.Refusal.{refusal_line}
 use Rattle.pbs_base.specs.declared.refusal.Refusal.{Refusal}
 use Rattle.pbs_ast.specs.declared.syntax.Spec.{Spec}
-use Rattle.net_core.specs.Circuits.{Circuit, IsCircuit}
+use Rattle.net_core.specs.Circuits.{Circuit}
 use Rattle.vlog_text.specs.Reading as vlog
 use Rattle.net_trace.specs.Outcomes.{Outcome, NetGives}
 use Rattle.net_trace.specs.Taken.{NetRows, Stops, TakesLittle}
@@ -63,14 +63,6 @@ Defines (Compile spec) files answer = Compiled (content_of files spec) answer
 Defines (Sim netlist trace) files answer = Simulates (content_of files netlist) (content_of files trace) answer
 Defines (Trace spec trace) files answer = Traces (content_of files spec) (content_of files trace) answer
 Defines Usage files answer = answer ≡ record { status = 2; text = [] }
-
--- a netlist that the first text stands for is a circuit: within the limits, with its gates in an order
-abbrev pub IsWired : Command → List NamedFile → Type 0
-IsWired (Check spec) files = ⊤
-IsWired (Compile spec) files = ⊤
-IsWired (Sim netlist trace) files = (net : Circuit) → vlog.StandsFor (content_of files netlist) net → IsCircuit net
-IsWired (Trace spec trace) files = ⊤
-IsWired Usage files = ⊤
 
 -- the words need a file
 abbrev pub NeedsFiles : Command → Type 0

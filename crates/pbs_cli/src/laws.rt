@@ -1,22 +1,25 @@
 //! That the answers are determined: a caller gets this as a clause of a call.
 ghost use Rattle.std.specs.Prelude.{◌≡◌, ◌≢◌, ℕ, List};
 ghost use Rattle.pbs_base.specs.Outside.{NamedFile};
-ghost use Rattle.pbs_cli.specs.Answers.{Answer, Defines, IsWired};
+ghost use Rattle.pbs_cli.specs.Answers.{Answer, Defines};
 ghost use Rattle.pbs_cli.specs.Words.{Command, Compile};
 
 use net_eval::laws::one_assignment;
+use net_order::laws::unbroken_is_circuit;
 use pbs_engine::laws::{one_check, one_outcome};
+use vlog_parse::read_is_raw;
 use vlog_read::one_answer as one_netlist;
 
-/// A command other than `compile` has one answer over files that are told, `sim` where the netlist that the text stands
-/// for is a circuit.
+/// A command other than `compile` has one answer over files that are told.
 pub fn one_answer()
     ensures { (command : Command) (files : List NamedFile) (a b : Answer)
-        → ((spec : List ℕ) → command ≢ Compile spec) → IsWired command files
+        → ((spec : List ℕ) → command ≢ Compile spec)
         → Defines command files a → Defines command files b → a ≡ b }
 {
     one_check();
     one_outcome();
     one_netlist();
     one_assignment();
+    read_is_raw();
+    unbroken_is_circuit();
 }
