@@ -22,7 +22,8 @@ settled_same taken (Input n) = refl
 settled_same taken (Reg n) = refl
 settled_same taken (Gate n) = refl
 
-all_same : (taken : List ℕ) (ws : List Wire) → listed.all_settled taken ws ≡ tested.all_settled (listed.is_among taken) ws
+all_same : (taken : List ℕ) (ws : List Wire)
+    → listed.all_settled taken ws ≡ tested.all_settled (listed.is_among taken) ws
 all_same taken [] = refl
 all_same taken (w ∷ ws) =
     ap (λ b. b && listed.all_settled taken ws) (settled_same taken w)
@@ -32,7 +33,8 @@ pub first_same : (taken : List ℕ) (n : ℕ) (gs : List gate.Gate)
     → listed.first_from taken n gs ≡ tested.first_from (listed.is_among taken) n gs
 first_same taken n [] = refl
 first_same taken n (g ∷ gs) =
-    ap (λ b. cond (not (listed.is_among taken n) && b) (Some n) (listed.first_from taken (suc n) gs)) (all_same taken g.pins)
+    ap (λ b. cond (not (listed.is_among taken n) && b) (Some n) (listed.first_from taken (suc n) gs))
+    (all_same taken g.pins)
     ∙ ap (λ o. cond (tested.can_be_taken (listed.is_among taken) n g.pins) (Some n) o) (first_same taken (suc n) gs)
 
 pub from_same : (gates : List gate.Gate) (left : ℕ) (taken : List ℕ)
@@ -46,7 +48,8 @@ from_same gates (suc left) taken =
 pub order_same : (gates : List gate.Gate) → listed.order_of gates ≡ tested.order_of gates
 order_same gates = from_same gates (length gates) []
 
-pub renumbered_is : (order : List ℕ) (w : Wire) → listed.renumbered order w ≡ moves.renumbered (moves.place_from 0 order) w
+pub renumbered_is : (order : List ℕ) (w : Wire)
+    → listed.renumbered order w ≡ moves.renumbered (moves.place_from 0 order) w
 renumbered_is order (Const b) = refl
 renumbered_is order Reset = refl
 renumbered_is order (Input n) = refl
@@ -54,40 +57,55 @@ renumbered_is order (Reg n) = refl
 renumbered_is order (Gate n) = refl
 
 moved_is : (order : List ℕ) (g : gate.Gate) → listed.moved order g ≡ moves.moved (moves.place_from 0 order) g
-moved_is order g = ap (λ (f : Wire → Wire). let new : gate.Gate = record { kind = g.kind; pins = map f g.pins } in new) (λ i w. renumbered_is order w i)
+moved_is order g =
+    ap (λ (f : Wire → Wire). let new : gate.Gate = record { kind = g.kind; pins = map f g.pins } in new)
+    (λ i w. renumbered_is order w i)
 
-pub reordered_is : (gates : List gate.Gate) (order : List ℕ) → listed.reordered gates order ≡ moves.reordered gates order
+pub reordered_is : (gates : List gate.Gate) (order : List ℕ)
+    → listed.reordered gates order ≡ moves.reordered gates order
 reordered_is gates order =
-    ap (λ (f : gate.Gate → gate.Gate). filter_map (λ n. option_map f (slice_get gates n)) order) (λ i g. moved_is order g i)
+    ap (λ (f : gate.Gate → gate.Gate). filter_map (λ n. option_map f (slice_get gates n)) order)
+    (λ i g. moved_is order g i)
 
 ordered_is : (gates : List gate.Gate)
     → listed.reordered gates (listed.order_of gates) ≡ moves.reordered gates (tested.order_of gates)
-ordered_is gates = ap (λ order. listed.reordered gates order) (order_same gates) ∙ reordered_is gates (tested.order_of gates)
+ordered_is gates =
+    ap (λ order. listed.reordered gates order) (order_same gates) ∙ reordered_is gates (tested.order_of gates)
 
-pub order_stays : (gates : List gate.Gate) → laws.AreEarlier gates → listed.order_of gates ≡ range_with_len zero (length gates)
+pub order_stays : (gates : List gate.Gate) → laws.AreEarlier gates
+    → listed.order_of gates ≡ range_with_len zero (length gates)
 order_stays gates e = order_same gates ∙ keeps_order gates e
 
-pub gates_stay : (gates : List gate.Gate) → laws.AreEarlier gates → listed.reordered gates (listed.order_of gates) ≡ gates
+pub gates_stay : (gates : List gate.Gate) → laws.AreEarlier gates
+    → listed.reordered gates (listed.order_of gates) ≡ gates
 gates_stay gates e = ordered_is gates ∙ keeps_gates gates e
 
 pub earlier_in_order : (gates : List gate.Gate) → laws.AreEarlier (listed.reordered gates (listed.order_of gates))
 earlier_in_order gates = subst (λ gs. laws.AreEarlier gs) (sym (ordered_is gates)) (reordered_earlier gates)
 
-goes_listed : (gates : List gate.Gate) (taken order : List ℕ) → tested.GoesOn gates taken order → laws.GoesOn gates taken order
+goes_listed : (gates : List gate.Gate) (taken order : List ℕ) → tested.GoesOn gates taken order
+    → laws.GoesOn gates taken order
 goes_listed gates taken [] h = h
 goes_listed gates taken (n ∷ rest) h = (first_same taken zero gates ∙ h.0, goes_listed gates (taken ++ n ∷ []) rest h.1)
 
-goes_tested : (gates : List gate.Gate) (taken order : List ℕ) → laws.GoesOn gates taken order → tested.GoesOn gates taken order
+goes_tested : (gates : List gate.Gate) (taken order : List ℕ) → laws.GoesOn gates taken order
+    → tested.GoesOn gates taken order
 goes_tested gates taken [] h = h
-goes_tested gates taken (n ∷ rest) h = (sym (first_same taken zero gates) ∙ h.0, goes_tested gates (taken ++ n ∷ []) rest h.1)
+goes_tested gates taken (n ∷ rest) h =
+    (sym (first_same taken zero gates) ∙ h.0, goes_tested gates (taken ++ n ∷ []) rest h.1)
 
 pub order_goes_on_listed : (gates : List gate.Gate) → laws.GoesOn gates [] (listed.order_of gates)
-order_goes_on_listed gates = subst (λ xs. laws.GoesOn gates [] xs) (sym (order_same gates)) (goes_listed gates [] (tested.order_of gates) (order_goes gates))
+order_goes_on_listed gates =
+    subst (λ xs. laws.GoesOn gates [] xs) (sym (order_same gates))
+    (goes_listed gates [] (tested.order_of gates) (order_goes gates))
 
 pub order_ends : (gates : List gate.Gate) → listed.first_from (listed.order_of gates) 0 gates ≡ None
-order_ends gates = ap (λ xs. listed.first_from xs 0 gates) (order_same gates) ∙ first_same (tested.order_of gates) 0 gates ∙ none_left_out gates
+order_ends gates =
+    ap (λ xs. listed.first_from xs 0 gates) (order_same gates) ∙ first_same (tested.order_of gates) 0 gates
+    ∙ none_left_out gates
 
-pub order_only : (gates : List gate.Gate) (order : List ℕ) → laws.GoesOn gates [] order → listed.first_from order 0 gates ≡ None
+pub order_only : (gates : List gate.Gate) (order : List ℕ) → laws.GoesOn gates [] order
+    → listed.first_from order 0 gates ≡ None
     → order ≡ listed.order_of gates
 order_only gates order h e =
     only_order gates order (goes_tested gates [] order h) (sym (first_same order 0 gates) ∙ e) ∙ sym (order_same gates)

@@ -1,5 +1,6 @@
 -- The lists of rules 6 to 8.
-use Rattle.std.proofs.Common.{◌≡◌, ℕ, zero, suc, ◌+◌, ◌-◌, ◌<◌, ◌≤◌, Bool, true, false, not, ◌&&◌, cond, List, [], ◌∷◌, ◌++◌}
+use Rattle.std.proofs.Common.{◌≡◌, ℕ, zero, suc, ◌+◌, ◌-◌, ◌<◌, ◌≤◌, Bool, true, false, not, ◌&&◌, cond, List, [], ◌∷◌}
+use Rattle.std.proofs.Common.{◌++◌}
 use Rattle.std.proofs.Common.{length, map, filter, drop, Option, Some, None, get_or, refl, sym, ap, ◌∙◌, subst, arith}
 use Rattle.std.proofs.Common.{drop-cons, add-one}
 use Rattle.std.specs.List.{filter_map, flat_map}
@@ -54,7 +55,8 @@ picked_at such ds n x within at =
     ∙ ap (λ m. cond (such x) (x.name ∷ map (λ (d : RawDecl). d.name) (filter such (drop m ds)))
     (map (λ (d : RawDecl). d.name) (filter such (drop m ds)))) (sym (add-one n))
   where
-    go : (b : Bool) → map (λ (d : RawDecl). d.name) (cond b (x ∷ filter such (drop (suc n) ds)) (filter such (drop (suc n) ds)))
+    go : (b : Bool)
+        → map (λ (d : RawDecl). d.name) (cond b (x ∷ filter such (drop (suc n) ds)) (filter such (drop (suc n) ds)))
         ≡ cond b (x.name ∷ map (λ (d : RawDecl). d.name) (filter such (drop (suc n) ds)))
         (map (λ (d : RawDecl). d.name) (filter such (drop (suc n) ds)))
     go true = refl
@@ -63,7 +65,8 @@ picked_at such ds n x within at =
 pub one_less : (left : ℕ) (b : Bool) (x : RawName) (rest names : List RawName) → names ≡ cond b (x ∷ rest) rest
     → (b ≡ true → 0 < left) → at_place (left - cond b 1 0) rest ≡ at_place left names
 one_less zero true x rest names e h = absurd (let l = h refl in omega arith)
-one_less (suc left) true x rest names e h = ap (λ n. at_place n rest) (omega arith) ∙ ap (λ ns. at_place (suc left) ns) (sym e)
+one_less (suc left) true x rest names e h =
+    ap (λ n. at_place n rest) (omega arith) ∙ ap (λ ns. at_place (suc left) ns) (sym e)
 one_less left false x rest names e h = ap (λ n. at_place n rest) (omega arith) ∙ ap (λ ns. at_place left ns) (sym e)
 
 pub first_here : (left : ℕ) (b : Bool) (x : RawName) (rest names : List RawName) → names ≡ cond b (x ∷ rest) rest

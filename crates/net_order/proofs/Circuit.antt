@@ -1,5 +1,6 @@
 -- The circuit of a raw netlist that breaks no rule.
-use Rattle.std.proofs.Common.{◌≡◌, ℕ, ◌<◌, true, List, length, map, Option, Some, None, refl, sym, ap, ◌∙◌, subst, arith}
+use Rattle.std.proofs.Common.{◌≡◌, ℕ, ◌<◌, true, List, length, map, Option, Some, None, refl, sym, ap, ◌∙◌, subst}
+use Rattle.std.proofs.Common.{arith}
 use Rattle.std.specs.Prelude.{slice_get}
 use Rattle.std.specs.Option.{option_map}
 use Rattle.std.proofs.lemmas.List.{length-map}
@@ -21,7 +22,8 @@ use Rattle.net_order.proofs.Bridge.{earlier_in_order}
 use Rattle.net_order.proofs.NameLists.{map_at, filter_map_has, Differ, differ_filter, differ_apart}
 use Rattle.net_order.proofs.Unbroken.{Unbroken, unbroken_has}
 use Rattle.net_order.proofs.Counts.{few_inputs, few_outputs, few_registers}
-use Rattle.net_order.proofs.Wired.{input_count, register_count, gate_count, gates_short, driver_there, drivers_apart, pin_there}
+use Rattle.net_order.proofs.Wired.{input_count, register_count, gate_count, gates_short, driver_there, drivers_apart}
+use Rattle.net_order.proofs.Wired.{pin_there}
 use Rattle.net_order.proofs.Wired.{register_there, output_driven}
 
 module _ (raw : RawNetlist) (r : IsRaw raw) (u : Unbroken raw) where
@@ -38,11 +40,17 @@ module _ (raw : RawNetlist) (r : IsRaw raw) (u : Unbroken raw) where
       (record { place = n; is = at }) in
       go k.0 (slice_get (text_gates raw) k.0) refl k.2
     where
-      go : (k : ℕ) (o : Option gate.Gate) → slice_get (text_gates raw) k ≡ o → option_map (moved (the_order raw)) o ≡ Some g → FromGate g
+      go : (k : ℕ) (o : Option gate.Gate) → slice_get (text_gates raw) k ≡ o
+          → option_map (moved (the_order raw)) o ≡ Some g → FromGate g
       go k None e h = cc
       go k (Some x) e h =
           let f = map_at (resolved raw) raw.gates k x e in
-          record { from = f.0; place = k; at = f.1; same = sym (same_Some (moved (the_order raw) x) g h) ∙ ap (moved (the_order raw)) f.2 }
+          record {
+            from = f.0;
+            place = k;
+            at = f.1;
+            same = sym (same_Some (moved (the_order raw) x) g h) ∙ ap (moved (the_order raw)) f.2;
+          }
 
   gate_fits : (n : ℕ) (g : gate.Gate) → slice_get (reordered (text_gates raw) (the_order raw)) n ≡ Some g
       → FitsAfter (input_count raw) (register_count raw) n g
@@ -72,7 +80,8 @@ module _ (raw : RawNetlist) (r : IsRaw raw) (u : Unbroken raw) where
   driven n x at = output_driven raw r u x (record { place = n; is = at })
 
   names_differ : Differ (λ (n : RawName). n.word) (outputs raw)
-  names_differ = differ_filter (λ (n : RawName). n.word) (λ (n : RawName). is_declared raw is_output n.word) raw.ports u.ports_once
+  names_differ =
+      differ_filter (λ (n : RawName). n.word) (λ (n : RawName). is_declared raw is_output n.word) raw.ports u.ports_once
 
   outputs_are : AreOutputs (gate_count raw) (map (output_of raw) (outputs raw))
   outputs_are = record {
@@ -102,7 +111,8 @@ module _ (raw : RawNetlist) (r : IsRaw raw) (u : Unbroken raw) where
     data_there = record {
       each = λ n w at.
           let x = map_at (register_wire raw) (registers raw) n w at in
-          subst (λ v. IsThere (input_count raw) (register_count raw) (gate_count raw) v) (sym x.2) (register_there raw r u x.0);
+          subst (λ v. IsThere (input_count raw) (register_count raw) (gate_count raw) v) (sym x.2)
+          (register_there raw r u x.0);
     };
     outputs_right = outputs_are;
   }

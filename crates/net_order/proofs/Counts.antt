@@ -13,12 +13,14 @@ use Rattle.vlog_text.specs.declared.raw.RawDecl.{RawDecl}
 use Rattle.vlog_text.specs.declared.raw.RawReg.{RawReg}
 use Rattle.vlog_text.specs.declared.raw.RawNetlist.{RawNetlist}
 use Rattle.vlog_text.specs.Words.{reg_targets}
-use Rattle.vlog_text.specs.Standing.{is_input, is_output, is_reg, is_clock, is_reset, is_declared, is_plain_input, inputs, outputs}
+use Rattle.vlog_text.specs.Standing.{is_input, is_output, is_reg, is_clock, is_reset, is_declared, is_plain_input}
+use Rattle.vlog_text.specs.Standing.{inputs, outputs}
 use Rattle.vlog_text.specs.Standing.{registers}
 use Rattle.vlog_text.specs.Refusing.{declared}
 use Rattle.net_order.specs.Queues.{Has}
 use Rattle.net_order.proofs.Tests.{and_true, and_left, and_right}
-use Rattle.net_order.proofs.NameLists.{same_word, word_is, any_has, has_any, has_filter, filter_has, has_map, map_at, named_has}
+use Rattle.net_order.proofs.NameLists.{same_word, word_is, any_has, has_any, has_filter, filter_has, has_map, map_at}
+use Rattle.net_order.proofs.NameLists.{named_has}
 use Rattle.net_order.proofs.NameLists.{differ_filter, differ_map, differ_distinct}
 use Rattle.net_order.proofs.Unbroken.{Unbroken, declared_has, has_declared, register_driven}
 
@@ -44,11 +46,14 @@ module _ (raw : RawNetlist) (u : Unbroken raw) where
       let ports = filter (λ (n : RawName). p n.word) raw.ports in
       let few = length-le_from_is_member nat_list_eq_equiv (map (λ (n : RawName). n.word) ports)
       (map (λ (n : RawName). n.word) (declared raw test))
-      (differ_distinct (λ (n : RawName). n.word) ports (differ_filter (λ (n : RawName). n.word) (λ (n : RawName). p n.word) raw.ports u.ports_once))
+      (differ_distinct (λ (n : RawName). n.word) ports
+      (differ_filter (λ (n : RawName). n.word) (λ (n : RawName). p n.word) raw.ports u.ports_once))
       (λ q h. member q h) in
-      omega (arith, few, length-map ports (λ (n : RawName). n.word), length-map (declared raw test) (λ (n : RawName). n.word))
+      omega
+      (arith, few, length-map ports (λ (n : RawName). n.word), length-map (declared raw test) (λ (n : RawName). n.word))
     where
-      member : (q : List ℕ) → list_any (bytes_eq q) (map (λ (n : RawName). n.word) (filter (λ (n : RawName). p n.word) raw.ports)) ≡ true
+      member : (q : List ℕ)
+          → list_any (bytes_eq q) (map (λ (n : RawName). n.word) (filter (λ (n : RawName). p n.word) raw.ports)) ≡ true
           → list_any (bytes_eq q) (map (λ (n : RawName). n.word) (declared raw test)) ≡ true
       member q h =
           let n = map_any (λ (n : RawName). n.word) (filter (λ (n : RawName). p n.word) raw.ports) q h in
@@ -60,7 +65,8 @@ module _ (raw : RawNetlist) (u : Unbroken raw) where
 
   pub few_inputs : length (inputs raw) ≤ 64
   few_inputs =
-      let few = few_ports is_input (is_plain_input raw) (λ (d : RawDecl). is_input d.kind && not (is_clock d.name.word || is_reset d.name.word))
+      let few = few_ports is_input (is_plain_input raw)
+      (λ (d : RawDecl). is_input d.kind && not (is_clock d.name.word || is_reset d.name.word))
       (λ w h. and_left (is_declared raw is_input w) (not (is_clock w || is_reset w)) h)
       (λ d s h. and_true (is_input d.kind) (not (is_clock d.name.word || is_reset d.name.word)) s
       (and_right (is_declared raw is_input d.name.word) (not (is_clock d.name.word || is_reset d.name.word)) h)) in
@@ -68,7 +74,8 @@ module _ (raw : RawNetlist) (u : Unbroken raw) where
 
   pub few_outputs : length (outputs raw) ≤ 128
   few_outputs =
-      let few = few_ports is_output (λ w. is_declared raw is_output w) (λ (d : RawDecl). is_output d.kind) (λ w h. h) (λ d s h. s) in
+      let few = few_ports is_output (λ w. is_declared raw is_output w) (λ (d : RawDecl). is_output d.kind) (λ w h. h)
+      (λ d s h. s) in
       omega (arith, few, u.outputs_few)
 
   pub few_registers : length (registers raw) ≤ length raw.regs

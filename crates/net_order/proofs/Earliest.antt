@@ -1,11 +1,13 @@
 -- The earliest of some places.
-use Rattle.std.proofs.Common.{◌≡◌, ℕ, zero, suc, ◌+◌, ◌<◌, ◌≤◌, ◌⊎◌, inl, inr, Bool, true, false, not, ◌&&◌, cond, List, [], ◌∷◌, ◌++◌, length, Option, Some, None, refl, sym, ap, ◌∙◌, subst, arith}
+use Rattle.std.proofs.Common.{◌≡◌, ℕ, zero, suc, ◌+◌, ◌<◌, ◌≤◌, ◌⊎◌, inl, inr, Bool, true, false, not, ◌&&◌, cond, List}
+use Rattle.std.proofs.Common.{[], ◌∷◌, ◌++◌, length, Option, Some, None, refl, sym, ap, ◌∙◌, subst, arith}
 use Rattle.std.specs.Prelude.{◌||◌, nat_eq, nat_lt, slice_get}
 use Rattle.std.proofs.lemmas.Bool.Decides.{nat_tests}
 use Rattle.std.proofs.lemmas.Option.{same_Some}
 use Rattle.vlog_text.specs.declared.raw.RawNetlist.{RawNetlist}
 use Rattle.pbs_base.specs.declared.refusal.Refusal.{Refusal}
-use Rattle.vlog_text.specs.Refusing.{is_before, earlier_of, earliest, refusal, refusals, first_broken, broken, rule_4, rule_5, rule_6, rule_7, rule_8}
+use Rattle.vlog_text.specs.Refusing.{is_before, earlier_of, earliest, refusal, refusals, first_broken, broken, rule_4}
+use Rattle.vlog_text.specs.Refusing.{rule_5, rule_6, rule_7, rule_8}
 use Rattle.vlog_text.specs.declared.raw.RawName.{RawName}
 use Rattle.net_order.specs.Laws.{IsEarliest}
 use Rattle.net_order.specs.Ordered.{or_next}
@@ -26,25 +28,43 @@ pub record Found (found : Option Refusal) (places : List Refusal) (r : Refusal) 
 not_before_itself : (r : Refusal) → is_before r r ≡ false
 not_before_itself r = grind (arith, nat_tests)
 
-pub found_is : (found : Option Refusal) (places : List Refusal) (r : Refusal) → earliest found places ≡ Some r → Found found places r
-found_is found [] r h = record { from = inl h; old = λ f e. let same : f ≡ r = same_Some f r (sym e ∙ h) in subst (λ g. is_before g r ≡ false) (sym same) (not_before_itself r); least = λ i s e. cc }
+pub found_is : (found : Option Refusal) (places : List Refusal) (r : Refusal) → earliest found places ≡ Some r
+    → Found found places r
+found_is found [] r h = record {
+  from = inl h;
+  old =
+      λ f e. let same : f ≡ r =
+      same_Some f r (sym e ∙ h) in subst (λ g. is_before g r ≡ false) (sym same) (not_before_itself r);
+  least = λ i s e. cc;
+}
 found_is None (x ∷ xs) r h =
     let rest = found_is (Some x) xs r h in
     record {
       from = elim rest.from [ inl e ↦ inr (zero, e) | inr p ↦ inr (suc p.0, p.1) ];
       old = λ f e. cc;
-      least = λ i. elim i as (λ i. (s : Refusal) → slice_get (x ∷ xs) i ≡ Some s → is_before s r ≡ false) [ zero ↦ λ s e. rest.old s e | suc j ↦ λ s e. rest.least j s e ];
+      least =
+          λ i. elim i as (λ i. (s : Refusal) → slice_get (x ∷ xs) i ≡ Some s → is_before s r ≡ false) [
+            | zero ↦ λ s e. rest.old s e
+            | suc j ↦ λ s e. rest.least j s e
+          ];
     }
 found_is (Some a) (x ∷ xs) r h = go (is_before x a) refl (λ e. found_is (Some e) xs r)
   where
-    go : (b : Bool) → is_before x a ≡ b → ((e : Refusal) → earliest (Some e) xs ≡ Some r → Found (Some e) xs r) → Found (Some a) (x ∷ xs) r
+    go : (b : Bool) → is_before x a ≡ b → ((e : Refusal) → earliest (Some e) xs ≡ Some r → Found (Some e) xs r)
+        → Found (Some a) (x ∷ xs) r
     go true e more =
         let rest = more x (ap (λ b. earliest (Some (cond b x a)) xs) (sym e) ∙ h) in
         let first = rest.old x refl in
         record {
           from = elim rest.from [ inl s ↦ inr (zero, s) | inr p ↦ inr (suc p.0, p.1) ];
-          old = λ f s. let same : a ≡ f = same_Some a f s in subst (λ g. is_before g r ≡ false) same (before_more a r x e first);
-          least = λ i. elim i as (λ i. (s : Refusal) → slice_get (x ∷ xs) i ≡ Some s → is_before s r ≡ false) [ zero ↦ λ s q. rest.old s q | suc j ↦ λ s q. rest.least j s q ];
+          old =
+              λ f s. let same : a ≡ f =
+              same_Some a f s in subst (λ g. is_before g r ≡ false) same (before_more a r x e first);
+          least =
+              λ i. elim i as (λ i. (s : Refusal) → slice_get (x ∷ xs) i ≡ Some s → is_before s r ≡ false) [
+                | zero ↦ λ s q. rest.old s q
+                | suc j ↦ λ s q. rest.least j s q
+              ];
         }
     go false e more =
         let rest = more a (ap (λ b. earliest (Some (cond b x a)) xs) (sym e) ∙ h) in
@@ -52,7 +72,11 @@ found_is (Some a) (x ∷ xs) r h = go (is_before x a) refl (λ e. found_is (Some
         record {
           from = elim rest.from [ inl s ↦ inl s | inr p ↦ inr (suc p.0, p.1) ];
           old = rest.old;
-          least = λ i. elim i as (λ i. (s : Refusal) → slice_get (x ∷ xs) i ≡ Some s → is_before s r ≡ false) [ zero ↦ λ s q. subst (λ g. is_before g r ≡ false) (same_Some x s q) (before_less a r x e first) | suc j ↦ λ s q. rest.least j s q ];
+          least =
+              λ i. elim i as (λ i. (s : Refusal) → slice_get (x ∷ xs) i ≡ Some s → is_before s r ≡ false) [
+                | zero ↦ λ s q. subst (λ g. is_before g r ≡ false) (same_Some x s q) (before_less a r x e first)
+                | suc j ↦ λ s q. rest.least j s q
+              ];
         }
 
 still_some : (a : Refusal) (places : List Refusal) → earliest (Some a) places ≡ None → ⊥
@@ -83,7 +107,8 @@ empty_rule rule (x ∷ xs) h = absurd (still_some (refusal rule x.span) (refusal
 later_rule : (r : Refusal) (rule : ℕ) (x : RawName) → r.rule < rule → is_before (refusal rule x.span) r ≡ false
 later_rule r rule x h = grind (arith, nat_tests)
 
-stays : (r : Refusal) (rule : ℕ) (names : List RawName) → r.rule < rule → earliest (Some r) (refusals rule names) ≡ Some r
+stays : (r : Refusal) (rule : ℕ) (names : List RawName) → r.rule < rule
+    → earliest (Some r) (refusals rule names) ≡ Some r
 stays r rule [] h = refl
 stays r rule (x ∷ xs) h =
     ap (λ b. earliest (Some (cond b (refusal rule x.span) r)) (refusals rule xs)) (later_rule r rule x h)

@@ -1,6 +1,7 @@
 -- Names that are entered one by one.
 use Rattle.std.proofs.Common.{◌≡◌, ℕ, zero, suc, ◌+◌, ◌<◌, Bool, true, false, cond, List, [], ◌∷◌, ◌++◌, length, map}
-use Rattle.std.proofs.Common.{subst, append-nil, take, drop, Option, Some, None, get_or, refl, sym, ap, ◌∙◌, drop-cons, add-one, arith}
+use Rattle.std.proofs.Common.{subst, append-nil, take, drop, Option, Some, None, get_or, refl, sym, ap, ◌∙◌, drop-cons}
+use Rattle.std.proofs.Common.{add-one, arith}
 use Rattle.std.specs.Prelude.{◌||◌, is_some}
 use Rattle.std.specs.List.{cons_option, filter_map, position_from, list_any}
 use Rattle.pbs_base.specs.declared.refusal.Refusal.{Refusal}
@@ -65,7 +66,8 @@ module _ {X : Type 0} (f : X → Option RawName) where
   take_named (y ∷ ys) (suc i) x within at = go (f y) (take_named ys i x (omega arith) at)
     where
       go : (o : Option RawName) → filter_map f (take (suc i) ys) ≡ filter_map f (take i ys) ++ one_or_none (f x)
-          → cons_option o (filter_map f (take (suc i) ys)) ≡ cons_option o (filter_map f (take i ys)) ++ one_or_none (f x)
+          → cons_option o (filter_map f (take (suc i) ys))
+          ≡ cons_option o (filter_map f (take i ys)) ++ one_or_none (f x)
       go None e = e
       go (Some n) e = ap (λ ns. n ∷ ns) e
 
@@ -115,7 +117,8 @@ module _ {X : Type 0} (f : X → Option RawName) where
   repeated_step rule xs i x row found found' within at opens e =
       let before = filter_map f (take i xs) in
       let rest = filter_map f (drop (suc i) xs) in
-      ap (λ o. earliest o (refusals rule (repeated (filter_map f (take (i + 1) xs)) (filter_map f (drop (i + 1) xs))))) e
+      ap (λ o. earliest o
+      (refusals rule (repeated (filter_map f (take (i + 1) xs)) (filter_map f (drop (i + 1) xs))))) e
       ∙ ap (λ n. earliest (earliest found (refusals rule row))
       (refusals rule (repeated (filter_map f (take n xs)) (filter_map f (drop n xs))))) (add-one i)
       ∙ ap (λ b. earliest (earliest found (refusals rule row)) (refusals rule (repeated b rest)))
@@ -166,5 +169,6 @@ module _ {X : Type 0} (f : X → Option RawName) where
       → Entered rule xs i firsts start found → i ≡ length xs
       → found ≡ earliest start (refusals rule (repeated [] (filter_map f xs)))
   entered_found rule xs i firsts start found e all =
-      ap (λ ys. earliest found (refusals rule (repeated (filter_map f (take i xs)) (filter_map f ys)))) (sym (drop_all xs i all))
+      ap (λ ys. earliest found (refusals rule (repeated (filter_map f (take i xs)) (filter_map f ys))))
+      (sym (drop_all xs i all))
       ∙ e.goes_on

@@ -1,6 +1,8 @@
 -- As what words are declared.
-use Rattle.std.proofs.Common.{◌≡◌, ℕ, zero, suc, ◌+◌, ◌<◌, Bool, true, false, not, ◌&&◌, cond, List, [], ◌∷◌, ◌++◌, length}
-use Rattle.std.proofs.Common.{subst, map, filter, take, drop, Option, Some, None, get_or, refl, sym, ap, ◌∙◌, add-one, arith}
+use Rattle.std.proofs.Common.{◌≡◌, ℕ, zero, suc, ◌+◌, ◌<◌, Bool, true, false, not, ◌&&◌, cond, List, [], ◌∷◌, ◌++◌}
+use Rattle.std.proofs.Common.{length}
+use Rattle.std.proofs.Common.{subst, map, filter, take, drop, Option, Some, None, get_or, refl, sym, ap, ◌∙◌, add-one}
+use Rattle.std.proofs.Common.{arith}
 use Rattle.std.specs.Prelude.{◌||◌, is_some}
 use Rattle.std.specs.List.{list_any, filter_map, cons_option}
 use Rattle.std.specs.Str.{bytes_eq}
@@ -37,7 +39,8 @@ one_more ds x such w =
     ∙ field_more (is_declared_in ds such w) (such x.kind) (bytes_eq w x.name.word)
 
 same_kinds : (i i' o o' w w' r r' : Bool) → i ≡ i' → o ≡ o' → w ≡ w' → r ≡ r'
-    → (let k : Kinds = record { input = i; output = o; wire = w; reg = r } in k) ≡ record { input = i'; output = o'; wire = w'; reg = r' }
+    → (let k : Kinds = record { input = i; output = o; wire = w; reg = r } in k)
+    ≡ record { input = i'; output = o'; wire = w'; reg = r' }
 same_kinds i i' o o' w w' r r' p q s t =
     ap (λ (b : Bool). let k : Kinds = record { input = b; output = o; wire = w; reg = r } in k) p
     ∙ ap (λ (b : Bool). let k : Kinds = record { input = i'; output = b; wire = w; reg = r } in k) q

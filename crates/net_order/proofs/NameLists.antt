@@ -1,6 +1,7 @@
 -- What is in a list that is filtered, mapped or joined, and lists in which no word stands twice.
 use Rattle.std.proofs.Common.{◌≡◌, ℕ, zero, suc, ◌+◌, ◌⊎◌, inl, inr, Bool, true, false, cond}
-use Rattle.std.proofs.Common.{List, [], ◌∷◌, ◌++◌, length, map, filter, Option, Some, None, refl, sym, ap, ◌∙◌, subst, arith}
+use Rattle.std.proofs.Common.{List, [], ◌∷◌, ◌++◌, length, map, filter, Option, Some, None, refl, sym, ap, ◌∙◌, subst}
+use Rattle.std.proofs.Common.{arith}
 use Rattle.std.specs.Prelude.{◌||◌, slice_get, unwrap_or}
 use Rattle.std.specs.List.{list_any, position_from, filter_map, cons_option, IsDistinct, AllByRecursion, find}
 use Rattle.std.specs.Str.{bytes_eq}
@@ -192,7 +193,8 @@ first_place p xs h =
 
 -- ---- names
 
-pub named_has : (names : List RawName) (w : List ℕ) → is_named names w ≡ true → (n : RawName) × Has names n × (n.word ≡ w)
+pub named_has : (names : List RawName) (w : List ℕ) → is_named names w ≡ true
+    → (n : RawName) × Has names n × (n.word ≡ w)
 named_has names w h =
     let r = any_has (has_word w) names h in
     (r.0, r.1, sym (same_word w r.0.word r.2))
@@ -227,7 +229,8 @@ differ_filter f p (x ∷ xs) d = go (p x) (differ_filter f p xs d.1)
     )
     go false more = more
 
-pub differ_map : {X Y : Type 0} (g : Y → List ℕ) (f : X → Y) (xs : List X) → Differ g (map f xs) → Differ (λ x. g (f x)) xs
+pub differ_map : {X Y : Type 0} (g : Y → List ℕ) (f : X → Y) (xs : List X) → Differ g (map f xs)
+    → Differ (λ x. g (f x)) xs
 differ_map g f [] d = tt
 differ_map g f (x ∷ xs) d = (
   not_any (λ y. bytes_eq (g (f x)) (g (f y))) xs
@@ -240,7 +243,8 @@ unfolding IsDistinct
 differ_distinct {X = X} f [] d = tt
 differ_distinct {X = X} f (x ∷ xs) d = (all xs d.0, differ_distinct f xs d.1)
   where
-    all : (ys : List X) → list_any (λ y. bytes_eq (f x) (f y)) ys ≡ false → AllByRecursion (λ y. bytes_eq (f x) y ≡ false) (map f ys)
+    all : (ys : List X) → list_any (λ y. bytes_eq (f x) (f y)) ys ≡ false
+        → AllByRecursion (λ y. bytes_eq (f x) y ≡ false) (map f ys)
     all [] h = tt
     all (y ∷ ys) h = (neither (bytes_eq (f x) (f y)) _ h, all ys (second (bytes_eq (f x) (f y)) _ h))
       where
@@ -258,17 +262,25 @@ differ_apart f [] d i j x y p q e = cc
 differ_apart f (z ∷ zs) d zero zero x y p q e = refl
 differ_apart f (z ∷ zs) d zero (suc j) x y p q e =
     let s : z ≡ x = same_Some z x p in
-    absurd (none_has (λ y. bytes_eq (f z) (f y)) zs d.0 y (record { place = j; is = q }) (word_is (f z) (f y) (ap f s ∙ e)))
+    absurd (none_has (λ y. bytes_eq (f z) (f y)) zs d.0 y (record {
+      place = j;
+      is = q;
+    }) (word_is (f z) (f y) (ap f s ∙ e)))
 differ_apart f (z ∷ zs) d (suc i) zero x y p q e =
     let s : z ≡ y = same_Some z y q in
-    absurd (none_has (λ y. bytes_eq (f z) (f y)) zs d.0 x (record { place = i; is = p }) (word_is (f z) (f x) (ap f s ∙ sym e)))
+    absurd (none_has (λ y. bytes_eq (f z) (f y)) zs d.0 x (record {
+      place = i;
+      is = p;
+    }) (word_is (f z) (f x) (ap f s ∙ sym e)))
 differ_apart f (z ∷ zs) d (suc i) (suc j) x y p q e = ap suc (differ_apart f zs d.1 i j x y p q e)
 
 -- a list none of whose names is repeated
-fresh : (before names : List RawName) → repeated before names ≡ [] → (n : RawName) → Has names n → is_named before n.word ≡ false
+fresh : (before names : List RawName) → repeated before names ≡ [] → (n : RawName) → Has names n
+    → is_named before n.word ≡ false
 fresh before [] h n has = let e = has.is in cc
 fresh before (x ∷ xs) h n has = elim (has_cases x n xs has) [
-  | inl s ↦ subst (λ (m : RawName). is_named before m.word ≡ false) s (first (is_named before x.word) (left_empty _ _ h))
+  | inl s ↦ subst (λ (m : RawName). is_named before m.word ≡ false) s
+      (first (is_named before x.word) (left_empty _ _ h))
   | inr later ↦
       front (is_named before n.word) _
       (sym (list_any-append (has_word n.word) before (x ∷ []))
@@ -289,7 +301,8 @@ once_differ before (x ∷ xs) h =
     let rest = right_empty (cond (is_named before x.word) (x ∷ []) []) (repeated (before ++ x ∷ []) xs) h in (
       not_any (λ (y : RawName). bytes_eq x.word y.word) xs
           (λ y has t. differs (is_named (before ++ x ∷ []) y.word)
-          (has_named (before ++ x ∷ []) y.word x (has_right before (x ∷ []) x (has_first x [])) (same_word x.word y.word t))
+          (has_named (before ++ x ∷ []) y.word x (has_right before (x ∷ []) x (has_first x []))
+          (same_word x.word y.word t))
           (fresh (before ++ x ∷ []) xs rest y has)),
       once_differ (before ++ x ∷ []) xs rest,
     )

@@ -1,6 +1,8 @@
 -- Numbers that are given one by one.
-use Rattle.std.proofs.Common.{◌≡◌, ℕ, zero, suc, ◌+◌, ◌<◌, ◌≤◌, Bool, true, false, cond, List, [], ◌∷◌, ◌++◌, length, map}
-use Rattle.std.proofs.Common.{filter, take, Option, Some, None, get_or, refl, sym, ap, ◌∙◌, subst, append-nil, add-one, arith}
+use Rattle.std.proofs.Common.{◌≡◌, ℕ, zero, suc, ◌+◌, ◌<◌, ◌≤◌, Bool, true, false, cond, List, [], ◌∷◌, ◌++◌, length}
+use Rattle.std.proofs.Common.{map}
+use Rattle.std.proofs.Common.{filter, take, Option, Some, None, get_or, refl, sym, ap, ◌∙◌, subst, append-nil, add-one}
+use Rattle.std.proofs.Common.{arith}
 use Rattle.std.proofs.Common.{length-append}
 use Rattle.std.specs.Prelude.{unwrap_or, is_some}
 use Rattle.std.specs.List.{cons_option, filter_map, position_from}
@@ -22,7 +24,8 @@ module _ {X : Type 0} (f : X → Option RawName) where
 
   learnt : (names : List RawName) (o : Option RawName) (firsts new : Firsts) (count : ℕ)
       → IsFirsts (map (λ (n : RawName). Some n) names) firsts → count ≡ length names → Learns firsts new o count
-      → (w : List ℕ) → first_in new w ≡ position_from (drives w) 0 (map (λ (n : RawName). Some n) (names ++ one_or_none o))
+      → (w : List ℕ)
+      → first_in new w ≡ position_from (drives w) 0 (map (λ (n : RawName). Some n) (names ++ one_or_none o))
   learnt names None firsts new count old e learns w =
       learns.finds w ∙ keeps (first_in firsts w) ∙ old.finds w
       ∙ ap (λ ns. position_from (drives w) 0 (map (λ (n : RawName). Some n) ns)) (sym (append-nil names))
@@ -32,7 +35,8 @@ module _ {X : Type 0} (f : X → Option RawName) where
       keeps (Some n) = refl
   learnt names (Some name) firsts new count old e learns w =
       learns.finds w ∙ ap (λ o. or_else o (cond (has_word w name) (Some count) None)) (old.finds w)
-      ∙ ap (λ n. or_else (position_from (drives w) 0 (map (λ (n : RawName). Some n) names)) (cond (has_word w name) (Some n) None))
+      ∙ ap (λ n. or_else (position_from (drives w) 0 (map (λ (n : RawName). Some n) names))
+      (cond (has_word w name) (Some n) None))
       (omega (arith, e, long names))
       ∙ sym (position_both (drives w) 0 (map (λ (n : RawName). Some n) names) (Some name ∷ []))
       ∙ ap (λ ns. position_from (drives w) 0 ns) (sym (both names))
@@ -41,7 +45,8 @@ module _ {X : Type 0} (f : X → Option RawName) where
       long [] = refl
       long (n ∷ ns) = ap suc (long ns)
 
-      both : (ns : List RawName) → map (λ (n : RawName). Some n) (ns ++ name ∷ []) ≡ map (λ (n : RawName). Some n) ns ++ Some name ∷ []
+      both : (ns : List RawName)
+          → map (λ (n : RawName). Some n) (ns ++ name ∷ []) ≡ map (λ (n : RawName). Some n) ns ++ Some name ∷ []
       both [] = refl
       both (n ∷ ns) = ap (λ xs. Some n ∷ xs) (both ns)
 
@@ -74,7 +79,8 @@ module _ {X : Type 0} (f : X → Option RawName) where
   pub numbered_all : (xs : List X) (i : ℕ) (firsts : Firsts) (count : ℕ) → Numbered xs i firsts count → i ≡ length xs
       → IsFirsts (map (λ (n : RawName). Some n) (filter_map f xs)) firsts
   numbered_all xs i firsts count old all =
-      subst (λ ys. IsFirsts (map (λ (n : RawName). Some n) (filter_map f ys)) firsts) (take_all f xs i all) old.firsts_are
+      subst (λ ys. IsFirsts (map (λ (n : RawName). Some n) (filter_map f ys)) firsts)
+      (take_all f xs i all) old.firsts_are
 
   pub numbered_count : (xs : List X) (i : ℕ) (firsts : Firsts) (count : ℕ) → Numbered xs i firsts count → i ≡ length xs
       → count ≡ length (filter_map f xs)

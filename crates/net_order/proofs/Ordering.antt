@@ -1,5 +1,7 @@
 -- The order so far, and what is left.
-use Rattle.std.proofs.Common.{◌≡◌, ℕ, zero, suc, ◌+◌, ◌-◌, ◌<◌, inl, inr, Bool, true, false, List, [], ◌∷◌, ◌++◌, length, Option, Some, None, set, take, refl, sym, ap, ◌∙◌, subst, arith, get_or-set_other, get_or-set_same, length-set}
+use Rattle.std.proofs.Common.{◌≡◌, ℕ, zero, suc, ◌+◌, ◌-◌, ◌<◌, inl, inr, Bool, true, false, List, [], ◌∷◌, ◌++◌}
+use Rattle.std.proofs.Common.{length, Option, Some, None, set, take, refl, sym, ap, ◌∙◌, subst, arith, get_or-set_other}
+use Rattle.std.proofs.Common.{get_or-set_same, length-set}
 use Rattle.std.specs.Prelude.{nat_eq, ◌||◌}
 use Rattle.std.specs.Ordering.{nat_cmp}
 use Rattle.std.specs.BTreeSet.{BTreeSet, contains, IsLowerBound}
@@ -14,7 +16,8 @@ use Rattle.net_order.proofs.Tests.{same_or_apart, or_right}
 use Rattle.net_order.proofs.Steps.{least_first, empty_none}
 use Rattle.net_order.specs.Queues.{marked, IsQueue}
 
-pub record Ordered (gates : List netlist.Gate.Gate) (taken : List Bool) (ready : BTreeSet ℕ) (waiting : List (List Waiter)) (order : List ℕ) (count : ℕ) : Type 0 where
+pub record Ordered (gates : List netlist.Gate.Gate) (taken : List Bool) (ready : BTreeSet ℕ)
+    (waiting : List (List Waiter)) (order : List ℕ) (count : ℕ) : Type 0 where
   pub queue : IsQueue gates (marked taken) ready waiting (λ n. false)
   pub long : length taken ≡ length gates
   pub same : (n : ℕ) → marked taken n ≡ is_among order n
@@ -24,27 +27,36 @@ pub record Ordered (gates : List netlist.Gate.Gate) (taken : List Bool) (ready :
 tests_same : (f g : ℕ → Bool) → ((n : ℕ) → f n ≡ g n) → f ≡ g
 tests_same f g h = λ i n. h n i
 
-firsts_same : (gates : List netlist.Gate.Gate) (taken : List Bool) (order : List ℕ) → ((n : ℕ) → marked taken n ≡ is_among order n) → first_from (is_among order) zero gates ≡ first_from (marked taken) zero gates
-firsts_same gates taken order same = ap (λ (f : ℕ → Bool). first_from f zero gates) (sym (tests_same (marked taken) (is_among order) same))
+firsts_same : (gates : List netlist.Gate.Gate) (taken : List Bool) (order : List ℕ)
+    → ((n : ℕ) → marked taken n ≡ is_among order n)
+    → first_from (is_among order) zero gates ≡ first_from (marked taken) zero gates
+firsts_same gates taken order same =
+    ap (λ (f : ℕ → Bool). first_from f zero gates) (sym (tests_same (marked taken) (is_among order) same))
 
 -- no gate can be taken: the order is whole
-pub ordered_whole : (gates : List netlist.Gate.Gate) (taken : List Bool) (ready : BTreeSet ℕ) (waiting : List (List Waiter)) (order : List ℕ) (count : ℕ) → Ordered gates taken ready waiting order count
+pub ordered_whole : (gates : List netlist.Gate.Gate) (taken : List Bool) (ready : BTreeSet ℕ)
+    (waiting : List (List Waiter)) (order : List ℕ) (count : ℕ) → Ordered gates taken ready waiting order count
     → count < length gates → ready.keys ≡ [] → order ≡ order_of gates
 ordered_whole gates taken ready waiting order count o within empty =
     let none = firsts_same gates taken order o.same ∙ empty_none gates (marked taken) ready waiting o.queue empty in
     go (length gates - count) (o.goes_on (length gates - count) (omega arith)) none
   where
-    go : (left : ℕ) → order_from gates left order ≡ order_of gates → first_from (is_among order) zero gates ≡ None → order ≡ order_of gates
+    go : (left : ℕ) → order_from gates left order ≡ order_of gates → first_from (is_among order) zero gates ≡ None
+        → order ≡ order_of gates
     go zero h e = h
     go (suc left) h e = sym (ap (λ o. then_on o order (λ n. order_from gates left (order ++ n ∷ []))) e) ∙ h
 
-pub ordered_all : (gates : List netlist.Gate.Gate) (taken : List Bool) (ready : BTreeSet ℕ) (waiting : List (List Waiter)) (order : List ℕ) (count : ℕ) → Ordered gates taken ready waiting order count
+pub ordered_all : (gates : List netlist.Gate.Gate) (taken : List Bool) (ready : BTreeSet ℕ)
+    (waiting : List (List Waiter)) (order : List ℕ) (count : ℕ) → Ordered gates taken ready waiting order count
     → count ≡ length gates → order ≡ order_of gates
 ordered_all gates taken ready waiting order count o all = o.goes_on zero (omega arith)
 
 -- one gate more
-pub ordered_more : (gates : List netlist.Gate.Gate) (taken : List Bool) (ready ready' : BTreeSet ℕ) (waiting waiting' : List (List Waiter)) (order : List ℕ) (count k : ℕ) → Ordered gates taken ready waiting order count
-    → contains nat_cmp ready k ≡ true → IsLowerBound nat_cmp ready k → k < length taken → IsQueue gates (marked (set taken k true)) ready' waiting' (λ n. false)
+pub ordered_more : (gates : List netlist.Gate.Gate) (taken : List Bool) (ready ready' : BTreeSet ℕ)
+    (waiting waiting' : List (List Waiter)) (order : List ℕ) (count k : ℕ)
+    → Ordered gates taken ready waiting order count
+    → contains nat_cmp ready k ≡ true → IsLowerBound nat_cmp ready k → k < length taken
+    → IsQueue gates (marked (set taken k true)) ready' waiting' (λ n. false)
     → Ordered gates (set taken k true) ready' waiting' (order ++ k ∷ []) (count + 1)
 ordered_more gates taken ready ready' waiting waiting' order count k o has least within q = record {
   queue = q;
@@ -52,7 +64,8 @@ ordered_more gates taken ready ready' waiting waiting' order count k o has least
   same = λ n. marked_more n ∙ sym (among_more n);
   goes_on = λ left e.
       let old : order_from gates (suc left) order ≡ order_of gates = o.goes_on (suc left) (omega arith) in
-      let first = firsts_same gates taken order o.same ∙ least_first gates (marked taken) ready waiting k o.queue has least in
+      let first = firsts_same gates taken order o.same
+      ∙ least_first gates (marked taken) ready waiting k o.queue has least in
       sym (ap (λ o. then_on o order (λ n. order_from gates left (order ++ n ∷ []))) first) ∙ old;
 }
   where
@@ -65,8 +78,10 @@ ordered_more gates taken ready ready' waiting waiting' order count k o has least
 
     marked_more : (n : ℕ) → marked (set taken k true) n ≡ (is_among order n || nat_eq n k)
     marked_more n = elim (same_or_apart n k) [
-      | inl e ↦ ap (λ j. marked (set taken k true) j) e ∙ get_or-set_same taken k true false within ∙ sym (or_right (is_among order n) (nat_eq n k) (eq-eqb n k e))
-      | inr ne ↦ get_or-set_other taken k n true false ne ∙ o.same n ∙ sym (or_false (is_among order n) (nat_eq n k) (ne_eqb n k ne))
+      | inl e ↦ ap (λ j. marked (set taken k true) j) e ∙ get_or-set_same taken k true false within
+          ∙ sym (or_right (is_among order n) (nat_eq n k) (eq-eqb n k e))
+      | inr ne ↦ get_or-set_other taken k n true false ne ∙ o.same n
+          ∙ sym (or_false (is_among order n) (nat_eq n k) (ne_eqb n k ne))
     ]
       where
         or_false : (a b : Bool) → b ≡ false → (a || b) ≡ a

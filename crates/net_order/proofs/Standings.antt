@@ -1,5 +1,6 @@
 -- What words stand for.
-use Rattle.std.proofs.Common.{◌≡◌, ℕ, zero, suc, ◌+◌, ◌<◌, ◌≤◌, Bool, true, false, cond, List, [], ◌∷◌, ◌++◌, length, map}
+use Rattle.std.proofs.Common.{◌≡◌, ℕ, zero, suc, ◌+◌, ◌<◌, ◌≤◌, Bool, true, false, cond, List, [], ◌∷◌, ◌++◌, length}
+use Rattle.std.proofs.Common.{map}
 use Rattle.std.proofs.Common.{filter, Option, Some, None, refl, sym, ap, ◌∙◌, arith}
 use Rattle.std.specs.Prelude.{unwrap_or, min}
 use Rattle.std.specs.List.{cons_option, filter_map, position_from}
@@ -23,15 +24,18 @@ map_position f w k [] = refl
 map_position f w k (x ∷ xs) = ap (λ o. cond (drives w (f x)) (Some k) o) (map_position f w (k + 1) xs)
 
 pub plain_names : (raw : RawNetlist) (kinds : List ℕ → Kinds) → ((w : List ℕ) → kinds w ≡ kinds_of raw.decls w)
-    → (ports : List RawName) → filter_map (plain_name kinds) ports ≡ filter (λ (n : RawName). is_plain_input raw n.word) ports
+    → (ports : List RawName)
+    → filter_map (plain_name kinds) ports ≡ filter (λ (n : RawName). is_plain_input raw n.word) ports
 plain_names raw kinds knows [] = refl
 plain_names raw kinds knows (n ∷ ns) =
-    ap (λ (k : Kinds). cons_option (cond (is_plain k n.word) (Some n) None) (filter_map (plain_name kinds) ns)) (knows n.word)
+    ap (λ (k : Kinds). cons_option (cond (is_plain k n.word) (Some n) None) (filter_map (plain_name kinds) ns))
+    (knows n.word)
     ∙ go (is_plain_input raw n.word) (plain_names raw kinds knows ns)
   where
     go : (b : Bool) → filter_map (plain_name kinds) ns ≡ filter (λ (n : RawName). is_plain_input raw n.word) ns
         → cons_option (cond b (Some n) None) (filter_map (plain_name kinds) ns)
-        ≡ cond b (n ∷ filter (λ (n : RawName). is_plain_input raw n.word) ns) (filter (λ (n : RawName). is_plain_input raw n.word) ns)
+        ≡ cond b (n ∷ filter (λ (n : RawName). is_plain_input raw n.word) ns)
+        (filter (λ (n : RawName). is_plain_input raw n.word) ns)
     go true e = ap (λ xs. n ∷ xs) e
     go false e = e
 
@@ -40,14 +44,17 @@ pub reg_names : (decls : List RawDecl) → filter_map reg_name decls
 reg_names [] = refl
 reg_names (d ∷ ds) = go (is_reg d.kind) (reg_names ds)
   where
-    go : (b : Bool) → filter_map reg_name ds ≡ map (λ (d : RawDecl). d.name) (filter (λ (d : RawDecl). is_reg d.kind) ds)
+    go : (b : Bool)
+        → filter_map reg_name ds ≡ map (λ (d : RawDecl). d.name) (filter (λ (d : RawDecl). is_reg d.kind) ds)
         → cons_option (cond b (Some d.name) None) (filter_map reg_name ds)
-        ≡ map (λ (d : RawDecl). d.name) (cond b (d ∷ filter (λ (d : RawDecl). is_reg d.kind) ds) (filter (λ (d : RawDecl). is_reg d.kind) ds))
+        ≡ map (λ (d : RawDecl). d.name)
+        (cond b (d ∷ filter (λ (d : RawDecl). is_reg d.kind) ds) (filter (λ (d : RawDecl). is_reg d.kind) ds))
     go true e = ap (λ xs. d.name ∷ xs) e
     go false e = e
 
 module _ (raw : RawNetlist) (numbers : Numbers) (are : AreNumbers raw numbers) (w : List ℕ) where
-  some_number : (names : List RawName) → unwrap_or (position_from (drives w) 0 (map (λ (n : RawName). Some n) names)) 0 ≡ number_of names w
+  some_number : (names : List RawName)
+      → unwrap_or (position_from (drives w) 0 (map (λ (n : RawName). Some n) names)) 0 ≡ number_of names w
   some_number names = ap (λ o. unwrap_or o 0) (map_position (λ (n : RawName). Some n) w 0 names)
 
   pub plain_wire : (k : Kinds) (b : Bool) (n : ℕ) → k ≡ kinds_in numbers.kinds w → b ≡ is_plain k w → b ≡ true
@@ -80,7 +87,8 @@ module _ (raw : RawNetlist) (numbers : Numbers) (are : AreNumbers raw numbers) (
       → wire.Reg n ≡ capped (word_wire raw w)
   reg_wire k b n e p t i r q =
       ap (λ m. wire.Reg m) (q ∙ ap (λ o. unwrap_or o 0) (are.registers_are.finds w) ∙ some_number (registers raw))
-      ∙ sym (not_input k b e p t i ∙ ap (λ c. capped (cond c (wire.Reg (number_of (registers raw) w)) (wire.Gate (driver raw w))))
+      ∙ sym (not_input k b e p t i
+      ∙ ap (λ c. capped (cond c (wire.Reg (number_of (registers raw) w)) (wire.Gate (driver raw w))))
       (sym (ap (λ (k : Kinds). k.reg) (e ∙ are.kinds.knows w)) ∙ r))
 
   pub gate_wire : (k : Kinds) (b : Bool) (n : ℕ) → k ≡ kinds_in numbers.kinds w → b ≡ is_plain k w → b ≡ false
@@ -89,5 +97,6 @@ module _ (raw : RawNetlist) (numbers : Numbers) (are : AreNumbers raw numbers) (
   gate_wire k b n e p t i r q =
       ap (λ m. wire.Gate m) (q ∙ ap (λ o. unwrap_or o 0) (are.gates_are.finds w
       ∙ map_position (λ (g : RawGate). target_name g.target) w 0 raw.gates))
-      ∙ sym (not_input k b e p t i ∙ ap (λ c. capped (cond c (wire.Reg (number_of (registers raw) w)) (wire.Gate (driver raw w))))
+      ∙ sym (not_input k b e p t i
+      ∙ ap (λ c. capped (cond c (wire.Reg (number_of (registers raw) w)) (wire.Gate (driver raw w))))
       (sym (ap (λ (k : Kinds). k.reg) (e ∙ are.kinds.knows w)) ∙ r))

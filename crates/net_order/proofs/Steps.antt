@@ -1,5 +1,7 @@
 -- Steps of the work that is left while gates are put in order.
-use Rattle.std.proofs.Common.{◌≡◌, ℕ, zero, suc, ◌+◌, ◌<◌, ◌≤◌, ◌⊎◌, inl, inr, Bool, true, false, not, ◌&&◌, List, [], ◌∷◌, ◌++◌, length, Option, Some, None, get_or, set, refl, sym, ap, ◌∙◌, subst, arith, get_or-set_other, get_or-set_same, length-set}
+use Rattle.std.proofs.Common.{◌≡◌, ℕ, zero, suc, ◌+◌, ◌<◌, ◌≤◌, ◌⊎◌, inl, inr, Bool, true, false, not, ◌&&◌, List, []}
+use Rattle.std.proofs.Common.{◌∷◌, ◌++◌, length, Option, Some, None, get_or, set, refl, sym, ap, ◌∙◌, subst, arith}
+use Rattle.std.proofs.Common.{get_or-set_other, get_or-set_same, length-set}
 use Rattle.std.specs.Prelude.{slice_get, slice_set, slice_index_or, nat_eq}
 use Rattle.std.specs.Ordering.{nat_cmp}
 use Rattle.std.specs.BTreeSet.{BTreeSet, contains, Updates, IsLowerBound}
@@ -11,7 +13,8 @@ use Rattle.net_core.specs.declared.gate as netlist
 use Rattle.net_order.specs.declared.waiting.Waiter.{Waiter}
 use Rattle.net_order.specs.Taking.{is_settled, all_settled, can_be_taken, first_from}
 use Rattle.net_order.specs.Queues.{Has, SettledBetween, IsReady, IsWaiter, WaitsFor, IsWaiting, IsQueue, without, wakes}
-use Rattle.net_order.proofs.Tests.{same_or_apart, true_or_false, set_same, set_other, least_le, differs, and_true, without_other, wakes_has}
+use Rattle.net_order.proofs.Tests.{same_or_apart, true_or_false, set_same, set_other, least_le, differs, and_true}
+use Rattle.net_order.proofs.Tests.{without_other, wakes_has}
 use Rattle.net_order.proofs.First.{each_settled, settled_all, none_from, some_from}
 
 -- a gate was taken
@@ -19,19 +22,24 @@ pub record Marks (taken taken' : ℕ → Bool) (k : ℕ) : Type 0 where
   pub here : taken' k ≡ true
   pub others : (n : ℕ) → (n ≡ k → ⊥) → taken' n ≡ taken n
 
-pub ready_can : (gates : List netlist.Gate.Gate) (taken : ℕ → Bool) (n : ℕ) (r : IsReady gates taken n) → can_be_taken taken n r.gate.pins ≡ true
+pub ready_can : (gates : List netlist.Gate.Gate) (taken : ℕ → Bool) (n : ℕ) (r : IsReady gates taken n)
+    → can_be_taken taken n r.gate.pins ≡ true
 ready_can gates taken n r = and_true (not (taken n)) _ (ap not r.free) r.settled
 
 -- who waits for a gate that isn't taken isn't ready
-pub waiter_cannot : (gates : List netlist.Gate.Gate) (taken : ℕ → Bool) (d : ℕ) (w : Waiter) (g : netlist.Gate.Gate) → taken d ≡ false → WaitsFor gates taken d w → slice_get gates w.gate ≡ Some g → all_settled taken g.pins ≡ true → ⊥
+pub waiter_cannot : (gates : List netlist.Gate.Gate) (taken : ℕ → Bool) (d : ℕ) (w : Waiter) (g : netlist.Gate.Gate)
+    → taken d ≡ false → WaitsFor gates taken d w → slice_get gates w.gate ≡ Some g → all_settled taken g.pins ≡ true → ⊥
 waiter_cannot gates taken d w g free waits at settled =
     let same : waits.gate ≡ g = same_Some waits.gate g (sym waits.there ∙ at) in
-    let pins : all_settled taken waits.gate.pins ≡ true = subst (λ (x : netlist.Gate.Gate). all_settled taken x.pins ≡ true) (sym same) settled in
+    let pins : all_settled taken waits.gate.pins ≡ true
+    = subst (λ (x : netlist.Gate.Gate). all_settled taken x.pins ≡ true) (sym same) settled in
     differs (taken d) (each_settled taken waits.gate.pins w.pin (Gate d) pins waits.pin) free
 
 -- a gate that is not in the set can't be taken
-pub unready : (gates : List netlist.Gate.Gate) (taken : ℕ → Bool) (ready : BTreeSet ℕ) (waiting : List (List Waiter)) → IsQueue gates taken ready waiting (λ n. false)
-    → (n : ℕ) (g : netlist.Gate.Gate) → slice_get gates n ≡ Some g → contains nat_cmp ready n ≡ false → can_be_taken taken n g.pins ≡ false
+pub unready : (gates : List netlist.Gate.Gate) (taken : ℕ → Bool) (ready : BTreeSet ℕ) (waiting : List (List Waiter))
+    → IsQueue gates taken ready waiting (λ n. false)
+    → (n : ℕ) (g : netlist.Gate.Gate) → slice_get gates n ≡ Some g → contains nat_cmp ready n ≡ false
+    → can_be_taken taken n g.pins ≡ false
 unready gates taken ready waiting q n g at out =
     elim (true_or_false (can_be_taken taken n g.pins)) [
       | inr no_way ↦ no_way
@@ -39,7 +47,8 @@ unready gates taken ready waiting q n g at out =
           let free : taken n ≡ false = free_of (taken n) _ can in
           let settled : all_settled taken g.pins ≡ true = settled_of (taken n) _ can in
           let w = q.others_wait n (slice_get_within gates n g at) free out refl in
-          waiter_cannot gates taken w.awaited w.waiter g w.free (q.waiters_are w.awaited w.waiter w.free w.listed) (ap (λ m. slice_get gates m) w.same ∙ at) settled)
+          waiter_cannot gates taken w.awaited w.waiter g w.free (q.waiters_are w.awaited w.waiter w.free w.listed)
+          (ap (λ m. slice_get gates m) w.same ∙ at) settled)
     ]
   where
     free_of : (a b : Bool) → (not a && b) ≡ true → a ≡ false
@@ -51,45 +60,64 @@ unready gates taken ready waiting q n g at out =
     settled_of false b h = h
 
 -- the least of the set is the first that can be taken
-pub least_first : (gates : List netlist.Gate.Gate) (taken : ℕ → Bool) (ready : BTreeSet ℕ) (waiting : List (List Waiter)) (k : ℕ) → IsQueue gates taken ready waiting (λ n. false)
+pub least_first : (gates : List netlist.Gate.Gate) (taken : ℕ → Bool) (ready : BTreeSet ℕ)
+    (waiting : List (List Waiter)) (k : ℕ) → IsQueue gates taken ready waiting (λ n. false)
     → contains nat_cmp ready k ≡ true → IsLowerBound nat_cmp ready k → first_from taken zero gates ≡ Some k
 least_first gates taken ready waiting k q has least =
     let r = q.ready_are k has in
-    some_from taken zero gates k r.gate r.there (subst (λ m. can_be_taken taken m r.gate.pins ≡ true) (omega arith) (ready_can gates taken k r))
-    (λ j x below at. subst (λ m. can_be_taken taken m x.pins ≡ false) (omega arith) (unready gates taken ready waiting q j x at (not_in j below)))
+    some_from taken zero gates k r.gate r.there
+    (subst (λ m. can_be_taken taken m r.gate.pins ≡ true) (omega arith) (ready_can gates taken k r))
+    (λ j x below at. subst (λ m. can_be_taken taken m x.pins ≡ false) (omega arith)
+    (unready gates taken ready waiting q j x at (not_in j below)))
     ∙ ap (λ m. Some m) (omega arith)
   where
     not_in : (j : ℕ) → j < k → contains nat_cmp ready j ≡ false
-    not_in j below = elim (true_or_false (contains nat_cmp ready j)) [ inr out ↦ out | inl has_j ↦ absurd (let le : k ≤ j = least_le ready k j least has_j in omega arith) ]
+    not_in j below =
+        elim (true_or_false (contains nat_cmp ready j)) [
+          | inr out ↦ out
+          | inl has_j ↦ absurd (let le : k ≤ j = least_le ready k j least has_j in omega arith)
+        ]
 
-pub empty_none : (gates : List netlist.Gate.Gate) (taken : ℕ → Bool) (ready : BTreeSet ℕ) (waiting : List (List Waiter)) → IsQueue gates taken ready waiting (λ n. false)
+pub empty_none : (gates : List netlist.Gate.Gate) (taken : ℕ → Bool) (ready : BTreeSet ℕ) (waiting : List (List Waiter))
+    → IsQueue gates taken ready waiting (λ n. false)
     → ready.keys ≡ [] → first_from taken zero gates ≡ None
 empty_none gates taken ready waiting q empty =
-    none_from taken zero gates (λ k x at. subst (λ m. can_be_taken taken m x.pins ≡ false) (omega arith) (unready gates taken ready waiting q k x at (out k)))
+    none_from taken zero gates
+    (λ k x at. subst (λ m. can_be_taken taken m x.pins ≡ false) (omega arith)
+    (unready gates taken ready waiting q k x at (out k)))
   where
     out : (k : ℕ) → contains nat_cmp ready k ≡ false
     out k = rw empty refl
 
-pub settled_more : (taken taken' : ℕ → Bool) (k : ℕ) → Marks taken taken' k → (w : Wire) → is_settled taken w ≡ true → is_settled taken' w ≡ true
+pub settled_more : (taken taken' : ℕ → Bool) (k : ℕ) → Marks taken taken' k → (w : Wire) → is_settled taken w ≡ true
+    → is_settled taken' w ≡ true
 settled_more taken taken' k m (Const b) h = refl
 settled_more taken taken' k m Reset h = refl
 settled_more taken taken' k m (Input n) h = refl
 settled_more taken taken' k m (Reg n) h = refl
-settled_more taken taken' k m (Gate n) h = elim (same_or_apart n k) [ inl e ↦ subst (λ j. taken' j ≡ true) (sym e) m.here | inr ne ↦ m.others n ne ∙ h ]
+settled_more taken taken' k m (Gate n) h =
+    elim (same_or_apart n k) [ inl e ↦ subst (λ j. taken' j ≡ true) (sym e) m.here | inr ne ↦ m.others n ne ∙ h ]
 
-pub between_more : (taken taken' : ℕ → Bool) (k : ℕ) → Marks taken taken' k → (pins : List Wire) (start stop : ℕ) → SettledBetween taken pins start stop → SettledBetween taken' pins start stop
-between_more taken taken' k m pins start stop s = record { each = λ i w l h e. settled_more taken taken' k m w (s.each i w l h e) }
+pub between_more : (taken taken' : ℕ → Bool) (k : ℕ) → Marks taken taken' k → (pins : List Wire) (start stop : ℕ)
+    → SettledBetween taken pins start stop → SettledBetween taken' pins start stop
+between_more taken taken' k m pins start stop s = record {
+  each = λ i w l h e. settled_more taken taken' k m w (s.each i w l h e);
+}
 
-pub ready_more : (gates : List netlist.Gate.Gate) (taken taken' : ℕ → Bool) (k : ℕ) → Marks taken taken' k → (n : ℕ) → (n ≡ k → ⊥) → IsReady gates taken n → IsReady gates taken' n
+pub ready_more : (gates : List netlist.Gate.Gate) (taken taken' : ℕ → Bool) (k : ℕ) → Marks taken taken' k → (n : ℕ)
+    → (n ≡ k → ⊥) → IsReady gates taken n → IsReady gates taken' n
 ready_more gates taken taken' k m n ne r = record {
   gate = r.gate;
   there = r.there;
   free = m.others n ne ∙ r.free;
-  settled = settled_all taken' r.gate.pins (λ i w e. settled_more taken taken' k m w (each_settled taken r.gate.pins i w r.settled e));
+  settled =
+      settled_all taken' r.gate.pins
+      (λ i w e. settled_more taken taken' k m w (each_settled taken r.gate.pins i w r.settled e));
 }
 
 -- who waits still waits
-pub waits_more : (gates : List netlist.Gate.Gate) (taken taken' : ℕ → Bool) (k : ℕ) → Marks taken taken' k → (d : ℕ) (w : Waiter) → (w.gate ≡ k → ⊥) → WaitsFor gates taken d w → WaitsFor gates taken' d w
+pub waits_more : (gates : List netlist.Gate.Gate) (taken taken' : ℕ → Bool) (k : ℕ) → Marks taken taken' k
+    → (d : ℕ) (w : Waiter) → (w.gate ≡ k → ⊥) → WaitsFor gates taken d w → WaitsFor gates taken' d w
 waits_more gates taken taken' k m d w ne h = record {
   gate = h.gate;
   there = h.there;
@@ -98,16 +126,22 @@ waits_more gates taken taken' k m d w ne h = record {
   pin = h.pin;
 }
 
-module _ (gates : List netlist.Gate.Gate) (taken taken' : ℕ → Bool) (ready ready' : BTreeSet ℕ) (waiting : List (List Waiter)) (k : ℕ)
-    (q : IsQueue gates taken ready waiting (λ n. false)) (has : contains nat_cmp ready k ≡ true) (update : Updates nat_cmp ready ready' k false) (m : Marks taken taken' k) where
+module _ (gates : List netlist.Gate.Gate) (taken taken' : ℕ → Bool) (ready ready' : BTreeSet ℕ)
+    (waiting : List (List Waiter)) (k : ℕ)
+    (q : IsQueue gates taken ready waiting (λ n. false)) (has : contains nat_cmp ready k ≡ true)
+    (update : Updates nat_cmp ready ready' k false) (m : Marks taken taken' k) where
   ready_k : IsReady gates taken k
   ready_k = q.ready_are k has
 
   not_k : (d : ℕ) (w : Waiter) → taken d ≡ false → WaitsFor gates taken d w → w.gate ≡ k → ⊥
-  not_k d w free h same = waiter_cannot gates taken d w ready_k.gate free h (ap (λ n. slice_get gates n) same ∙ ready_k.there) ready_k.settled
+  not_k d w free h same =
+      waiter_cannot gates taken d w ready_k.gate free h (ap (λ n. slice_get gates n) same ∙ ready_k.there)
+      ready_k.settled
 
   apart_in : (n : ℕ) → contains nat_cmp ready' n ≡ true → n ≡ k → ⊥
-  apart_in n h e = differs (contains nat_cmp ready' k) (ap (λ j. contains nat_cmp ready' j) (sym e) ∙ h) (set_same ready ready' k false update)
+  apart_in n h e =
+      differs (contains nat_cmp ready' k) (ap (λ j. contains nat_cmp ready' j) (sym e) ∙ h)
+      (set_same ready ready' k false update)
 
   apart_free : (n : ℕ) → taken' n ≡ false → n ≡ k → ⊥
   apart_free n h e = differs (taken' k) m.here (ap taken' (sym e) ∙ h)
@@ -123,7 +157,9 @@ module _ (gates : List netlist.Gate.Gate) (taken taken' : ℕ → Bool) (ready r
   pub popped : IsQueue gates taken' ready' (slice_set waiting k []) (wakes (slice_index_or waiting k []))
   popped = record {
     long = length-set waiting k [] ∙ q.long;
-    ready_are = λ n h. ready_more gates taken taken' k m n (apart_in n h) (q.ready_are n (sym (set_other ready ready' k n false update (apart_in n h)) ∙ h));
+    ready_are =
+        λ n h. ready_more gates taken taken' k m n (apart_in n h)
+        (q.ready_are n (sym (set_other ready ready' k n false update (apart_in n h)) ∙ h));
     waiters_are = λ d w free h.
         let ne : d ≡ k → ⊥ = apart_free d free in
         let was : taken d ≡ false = sym (m.others d ne) ∙ free in
@@ -131,9 +167,12 @@ module _ (gates : List netlist.Gate.Gate) (taken taken' : ℕ → Bool) (ready r
         waits_more gates taken taken' k m d w (not_k d w was old) old;
     others_wait = λ n within free out calm.
         let ne : n ≡ k → ⊥ = apart_free n free in
-        let w = q.others_wait n within (sym (m.others n ne) ∙ free) (sym (set_other ready ready' k n false update ne) ∙ out) refl in
+        let w = q.others_wait n within (sym (m.others n ne) ∙ free)
+        (sym (set_other ready ready' k n false update ne) ∙ out) refl in
         elim (same_or_apart w.awaited k) [
-          | inl e ↦ absurd (differs (wakes (slice_index_or waiting k []) n) (wakes_has (slice_index_or waiting k []) w.waiter n (subst (λ j. Has (slice_index_or waiting j []) w.waiter) e w.listed) w.same) calm)
+          | inl e ↦ absurd (differs (wakes (slice_index_or waiting k []) n)
+              (wakes_has (slice_index_or waiting k []) w.waiter n
+              (subst (λ j. Has (slice_index_or waiting j []) w.waiter) e w.listed) w.same) calm)
           | inr apart ↦ record {
             awaited = w.awaited;
             waiter = w.waiter;
@@ -151,7 +190,8 @@ has_within xs y x h = go xs h.place h.is
     go [] zero at = inr (sym (same_Some y x at))
     go [] (suc i) at = cc
     go (z ∷ zs) zero at = inl (record { place = zero; is = at })
-    go (z ∷ zs) (suc i) at = elim (go zs i at) [ inl r ↦ inl (record { place = suc r.place; is = r.is }) | inr e ↦ inr e ]
+    go (z ∷ zs) (suc i) at =
+        elim (go zs i at) [ inl r ↦ inl (record { place = suc r.place; is = r.is }) | inr e ↦ inr e ]
 
 pub has_more : {X : Type 0} (xs : List X) (y x : X) → Has xs x → Has (xs ++ y ∷ []) x
 has_more xs y x h = go xs h.place h.is
@@ -165,19 +205,25 @@ pub has_last : {X : Type 0} (xs : List X) (y : X) → Has (xs ++ y ∷ []) y
 has_last [] y = record { place = zero; is = refl }
 has_last (z ∷ zs) y = let r = has_last zs y in record { place = suc r.place; is = r.is }
 
-module _ (gates : List netlist.Gate.Gate) (taken : ℕ → Bool) (ready ready' : BTreeSet ℕ) (waiting : List (List Waiter)) (pending : ℕ → Bool) (w : Waiter)
+module _ (gates : List netlist.Gate.Gate) (taken : ℕ → Bool) (ready ready' : BTreeSet ℕ) (waiting : List (List Waiter))
+    (pending : ℕ → Bool) (w : Waiter)
     (q : IsQueue gates taken ready waiting pending) (is : IsWaiter gates taken w) where
-  pub now_ready : SettledBetween taken is.gate.pins w.pin (length is.gate.pins) → Updates nat_cmp ready ready' w.gate true → IsQueue gates taken ready' waiting (without pending w.gate)
+  pub now_ready : SettledBetween taken is.gate.pins w.pin (length is.gate.pins)
+      → Updates nat_cmp ready ready' w.gate true → IsQueue gates taken ready' waiting (without pending w.gate)
   now_ready rest update = record {
     long = q.long;
     ready_are = λ n h. elim (same_or_apart n w.gate) [
-      | inl e ↦ subst (λ j. IsReady gates taken j) (sym e) (record { gate = is.gate; there = is.there; free = is.free; settled = settled_all taken is.gate.pins whole })
+      | inl e ↦ subst (λ j. IsReady gates taken j) (sym e)
+          (record { gate = is.gate; there = is.there; free = is.free; settled = settled_all taken is.gate.pins whole })
       | inr ne ↦ q.ready_are n (sym (set_other ready ready' w.gate n true update ne) ∙ h)
     ];
     waiters_are = q.waiters_are;
     others_wait = λ n within free out calm.
-        let ne : n ≡ w.gate → ⊥ = λ e. differs (contains nat_cmp ready' w.gate) (set_same ready ready' w.gate true update) (ap (λ j. contains nat_cmp ready' j) (sym e) ∙ out) in
-        q.others_wait n within free (sym (set_other ready ready' w.gate n true update ne) ∙ out) (without_other pending w.gate n ne calm);
+        let ne : n ≡ w.gate → ⊥
+        = λ e. differs (contains nat_cmp ready' w.gate) (set_same ready ready' w.gate true update)
+        (ap (λ j. contains nat_cmp ready' j) (sym e) ∙ out) in
+        q.others_wait n within free (sym (set_other ready ready' w.gate n true update ne) ∙ out)
+        (without_other pending w.gate n ne calm);
   }
     where
       whole : (i : ℕ) (x : Wire) → slice_get is.gate.pins i ≡ Some x → is_settled taken x ≡ true
@@ -186,22 +232,37 @@ module _ (gates : List netlist.Gate.Gate) (taken : ℕ → Bool) (ready ready' :
         | inr above ↦ rest.each i x above (slice_get_within is.gate.pins i x at) at
       ]
 
-  pub now_waits : (k d : ℕ) → slice_get is.gate.pins k ≡ Some (Gate d) → taken d ≡ false → SettledBetween taken is.gate.pins w.pin k → d < length waiting
-      → IsQueue gates taken ready (slice_set waiting d (slice_index_or waiting d [] ++ (record { gate = w.gate; pin = k }) ∷ [])) (without pending w.gate)
+  pub now_waits : (k d : ℕ) → slice_get is.gate.pins k ≡ Some (Gate d) → taken d ≡ false
+      → SettledBetween taken is.gate.pins w.pin k → d < length waiting
+      → IsQueue gates taken ready
+      (slice_set waiting d (slice_index_or waiting d [] ++ (record { gate = w.gate; pin = k }) ∷ []))
+      (without pending w.gate)
   now_waits k d pin free_d rest within_d = record {
     long = length-set waiting d added ∙ q.long;
     ready_are = q.ready_are;
     waiters_are = λ e x free h. elim (same_or_apart e d) [
       | inl same ↦
-          let here : Has (slice_index_or waiting d [] ++ waiter ∷ []) x = subst (λ xs. Has xs x) (ap (λ j. slice_index_or (slice_set waiting d added) j []) same ∙ get_or-set_same waiting d added [] within_d) h in
+          let here : Has (slice_index_or waiting d [] ++ waiter ∷ []) x
+          = subst (λ xs. Has xs x)
+          (ap (λ j. slice_index_or (slice_set waiting d added) j []) same
+          ∙ get_or-set_same waiting d added [] within_d) h in
           elim (has_within (slice_index_or waiting d []) waiter x here) [
             | inl old ↦ q.waiters_are e x free (subst (λ j. Has (slice_index_or waiting j []) x) (sym same) old)
-            | inr last ↦ subst (λ y. WaitsFor gates taken e y) (sym last) (subst (λ j. WaitsFor gates taken j waiter) (sym same) new)
+            | inr last ↦ subst (λ y. WaitsFor gates taken e y) (sym last)
+                (subst (λ j. WaitsFor gates taken j waiter) (sym same) new)
           ]
       | inr ne ↦ q.waiters_are e x free (subst (λ xs. Has xs x) (get_or-set_other waiting d e added [] ne) h)
     ];
     others_wait = λ n within free out calm. elim (same_or_apart n w.gate) [
-      | inl same ↦ record { awaited = d; waiter = waiter; free = free_d; listed = subst (λ xs. Has xs waiter) (sym (get_or-set_same waiting d added [] within_d)) (has_last (slice_index_or waiting d []) waiter); same = sym same }
+      | inl same ↦ record {
+        awaited = d;
+        waiter = waiter;
+        free = free_d;
+        listed =
+            subst (λ xs. Has xs waiter) (sym (get_or-set_same waiting d added [] within_d))
+            (has_last (slice_index_or waiting d []) waiter);
+        same = sym same;
+      }
       | inr ne ↦
           let old = q.others_wait n within free out (without_other pending w.gate n ne calm) in
           record {
@@ -210,8 +271,12 @@ module _ (gates : List netlist.Gate.Gate) (taken : ℕ → Bool) (ready ready' :
             free = old.free;
             same = old.same;
             listed = elim (same_or_apart old.awaited d) [
-              | inl same ↦ subst (λ xs. Has xs old.waiter) (sym (ap (λ j. slice_index_or (slice_set waiting d added) j []) same ∙ get_or-set_same waiting d added [] within_d)) (has_more _ waiter old.waiter (subst (λ j. Has (slice_index_or waiting j []) old.waiter) same old.listed))
-              | inr apart ↦ subst (λ xs. Has xs old.waiter) (sym (get_or-set_other waiting d old.awaited added [] apart)) old.listed
+              | inl same ↦ subst (λ xs. Has xs old.waiter)
+                  (sym (ap (λ j. slice_index_or (slice_set waiting d added) j []) same
+                  ∙ get_or-set_same waiting d added [] within_d)) (has_more _ waiter old.waiter (subst (λ j. Has
+                  (slice_index_or waiting j []) old.waiter) same old.listed))
+              | inr apart ↦ subst (λ xs. Has xs old.waiter)
+                  (sym (get_or-set_other waiting d old.awaited added [] apart)) old.listed
             ];
           }
     ];
@@ -224,8 +289,27 @@ module _ (gates : List netlist.Gate.Gate) (taken : ℕ → Bool) (ready ready' :
       added = slice_index_or waiting d [] ++ waiter ∷ []
 
       new : WaitsFor gates taken d waiter
-      new = record { gate = is.gate; there = is.there; free = is.free; pin = pin; settled = record { each = λ i x low below at. elim (cases_lt i w.pin) [ inl early ↦ is.settled.each i x low early at | inr late ↦ rest.each i x late below at ] } }
+      new = record {
+        gate = is.gate;
+        there = is.there;
+        free = is.free;
+        pin = pin;
+        settled = record {
+          each =
+              λ i x low below at. elim (cases_lt i w.pin) [
+                | inl early ↦ is.settled.each i x low early at
+                | inr late ↦ rest.each i x late below at
+              ];
+        };
+      }
 
-pub fewer_pending : (gates : List netlist.Gate.Gate) (taken : ℕ → Bool) (ready : BTreeSet ℕ) (waiting : List (List Waiter)) (more fewer : ℕ → Bool) → ((n : ℕ) → n < length gates → fewer n ≡ false → more n ≡ false)
+pub fewer_pending : (gates : List netlist.Gate.Gate) (taken : ℕ → Bool) (ready : BTreeSet ℕ)
+    (waiting : List (List Waiter))
+    (more fewer : ℕ → Bool) → ((n : ℕ) → n < length gates → fewer n ≡ false → more n ≡ false)
     → IsQueue gates taken ready waiting more → IsQueue gates taken ready waiting fewer
-fewer_pending gates taken ready waiting more fewer h q = record { long = q.long; ready_are = q.ready_are; waiters_are = q.waiters_are; others_wait = λ n within free out calm. q.others_wait n within free out (h n within calm) }
+fewer_pending gates taken ready waiting more fewer h q = record {
+  long = q.long;
+  ready_are = q.ready_are;
+  waiters_are = q.waiters_are;
+  others_wait = λ n within free out calm. q.others_wait n within free out (h n within calm);
+}

@@ -1,5 +1,6 @@
 -- The gates as the text has them.
-use Rattle.std.proofs.Common.{◌≡◌, ℕ, zero, suc, ◌+◌, ◌<◌, ◌≤◌, Bool, true, false, not, ◌&&◌, cond, List, [], ◌∷◌, ◌++◌, length}
+use Rattle.std.proofs.Common.{◌≡◌, ℕ, zero, suc, ◌+◌, ◌<◌, ◌≤◌, Bool, true, false, not, ◌&&◌, cond, List, [], ◌∷◌, ◌++◌}
+use Rattle.std.proofs.Common.{length}
 use Rattle.std.proofs.Common.{map, Option, Some, None, refl, sym, ap, ◌∙◌, subst, arith}
 use Rattle.std.specs.Prelude.{slice_get, unwrap_or, min}
 use Rattle.std.specs.List.{position_from}
@@ -64,7 +65,8 @@ module _ (raw : RawNetlist) (is : IsRaw raw) where
       → slice_get g.pins k ≡ Some p → capped (pin_wire raw p) ≡ wire.Gate m → m < length raw.gates
   pin_there n g k (pin.Const b) m at here e = cc
   pin_there n g k (pin.Name name) m at here e =
-      let same : m ≡ driver raw name.word = gate_only (is_plain_input raw name.word) (is_declared raw is_input name.word)
+      let same : m ≡ driver raw name.word
+      = gate_only (is_plain_input raw name.word) (is_declared raw is_input name.word)
       (is_declared raw is_reg name.word) (number_of (inputs raw) name.word) (number_of (registers raw) name.word)
       (driver raw name.word) m e in
       let within = slice_get_within raw.gates n g at in

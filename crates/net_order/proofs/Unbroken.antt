@@ -9,14 +9,16 @@ use Rattle.vlog_text.specs.declared.raw.RawName.{RawName}
 use Rattle.vlog_text.specs.declared.raw.RawDecl.{RawDecl}
 use Rattle.vlog_text.specs.declared.raw.RawNetlist.{RawNetlist}
 use Rattle.vlog_text.specs.Words.{has_word, is_named, repeated, decl_names, gate_targets, reg_targets, uses}
-use Rattle.vlog_text.specs.Standing.{is_input, is_output, is_reg, is_port, is_clock, is_reset, is_declared, is_plain_input}
+use Rattle.vlog_text.specs.Standing.{is_input, is_output, is_reg, is_port, is_clock, is_reset, is_declared}
+use Rattle.vlog_text.specs.Standing.{is_plain_input}
 use Rattle.vlog_text.specs.Standing.{inputs, registers, the_order}
 use Rattle.vlog_text.specs.Refusing.{refusals, first_broken, rule_4, rule_5, rule_6, rule_7, rule_8, declared, at_place}
 use Rattle.vlog_text.specs.Refusing.{left_out}
 use Rattle.net_order.specs.Queues.{Has}
 use Rattle.net_order.proofs.Tests.{differs, and_true, and_left, and_right, or_left, or_right}
 use Rattle.net_order.proofs.Earliest.{unrefused_is}
-use Rattle.net_order.proofs.NameLists.{same_word, word_is, left_empty, right_empty, any_has, has_any, has_filter, has_map, filter_none}
+use Rattle.net_order.proofs.NameLists.{same_word, word_is, left_empty, right_empty, any_has, has_any, has_filter}
+use Rattle.net_order.proofs.NameLists.{has_map, filter_none}
 use Rattle.net_order.proofs.NameLists.{named_has, has_named, Differ, once_differ}
 
 pub record Unbroken (raw : RawNetlist) : Type 0 where
@@ -25,12 +27,14 @@ pub record Unbroken (raw : RawNetlist) : Type 0 where
   pub uses_declared : (n : RawName) → Has (uses raw) n → is_named (decl_names raw) n.word ≡ true
   pub ports_are : (n : RawName) → Has raw.ports n → is_declared raw (λ k. not (is_port k)) n.word ≡ false
   pub ports_listed : (d : RawDecl) → Has raw.decls d → is_port d.kind ≡ true → is_named raw.ports d.name.word ≡ true
-  pub gates_drive : (n : RawName) → Has (gate_targets raw) n → is_declared raw (λ k. is_input k || is_reg k) n.word ≡ false
+  pub gates_drive : (n : RawName) → Has (gate_targets raw) n
+      → is_declared raw (λ k. is_input k || is_reg k) n.word ≡ false
   pub regs_drive : (n : RawName) → Has (reg_targets raw) n → is_declared raw is_reg n.word ≡ true
   pub driven : (d : RawDecl) → Has raw.decls d → is_input d.kind ≡ false
       → is_named (gate_targets raw ++ reg_targets raw) d.name.word ≡ true
   pub ordered : left_out (the_order raw) 0 raw.gates ≡ []
-  pub inputs_few : length (declared raw (λ d. is_input d.kind && not (is_clock d.name.word || is_reset d.name.word))) ≤ 64
+  pub inputs_few : length
+      (declared raw (λ d. is_input d.kind && not (is_clock d.name.word || is_reset d.name.word))) ≤ 64
   pub outputs_few : length (declared raw (λ d. is_output d.kind)) ≤ 128
 
 no_refusals : (rule : ℕ) (names : List RawName) → refusals rule names ≡ [] → names ≡ []
@@ -45,7 +49,8 @@ second_false : (a b : Bool) → a ≡ true → (a && b) ≡ false → b ≡ fals
 second_false true b e h = h
 second_false false b e h = cc
 
-none_declared : (raw : RawNetlist) (such : RawDecl → Bool) → declared raw such ≡ [] → (d : RawDecl) → Has raw.decls d → such d ≡ false
+none_declared : (raw : RawNetlist) (such : RawDecl → Bool) → declared raw such ≡ [] → (d : RawDecl) → Has raw.decls d
+    → such d ≡ false
 none_declared raw such h = filter_none such raw.decls (empty (filter such raw.decls) h)
   where
     empty : (ds : List RawDecl) → map (λ (d : RawDecl). d.name) ds ≡ [] → ds ≡ []
@@ -104,7 +109,8 @@ all_outputs raw = declared raw (λ d. is_output d.kind)
 
 pub unbroken_has : (raw : RawNetlist) → first_broken raw ≡ None → Unbroken raw
 unbroken_has raw h =
-    let all = all_empty (refusals 4 (rule_4 raw)) (refusals 5 (rule_5 raw)) (refusals 6 (rule_6 raw)) (refusals 7 (rule_7 raw))
+    let all = all_empty (refusals 4 (rule_4 raw)) (refusals 5 (rule_5 raw)) (refusals 6 (rule_6 raw))
+    (refusals 7 (rule_7 raw))
     (refusals 8 (rule_8 raw)) (unrefused_is raw h) in
     let r4 = all_empty (repeated [] (decl_names raw)) (repeated [] raw.ports) (undeclared raw) (no_ports raw)
     (declared raw (is_unlisted raw)) (no_refusals 4 (rule_4 raw) all.first) in
@@ -120,12 +126,14 @@ unbroken_has raw h =
       ports_listed = λ d has port. is_true (is_named raw.ports d.name.word)
           (second_false (is_port d.kind) (not (is_named raw.ports d.name.word)) port
           (none_declared raw (is_unlisted raw) r4.fifth d has));
-      gates_drive = filter_none (λ (n : RawName). is_declared raw (λ k. is_input k || is_reg k) n.word) (gate_targets raw)
+      gates_drive =
+          filter_none (λ (n : RawName). is_declared raw (λ k. is_input k || is_reg k) n.word) (gate_targets raw)
           r5.third;
       regs_drive = λ n has. is_true (is_declared raw is_reg n.word)
           (filter_none (λ (n : RawName). not (is_declared raw is_reg n.word)) (reg_targets raw) r5.fourth n has);
       driven = λ d has other. is_true (is_named (gate_targets raw ++ reg_targets raw) d.name.word)
-          (second_false (not (is_input d.kind)) (not (is_named (gate_targets raw ++ reg_targets raw) d.name.word)) (ap not other)
+          (second_false (not (is_input d.kind)) (not (is_named (gate_targets raw ++ reg_targets raw) d.name.word))
+          (ap not other)
           (none_declared raw (is_undriven raw) r5.fifth d has));
       ordered = no_refusals 6 (rule_6 raw) all.third;
       inputs_few = place_past 64 (plain_inputs raw)
@@ -146,13 +154,15 @@ declared_has raw such w h =
       sym (same_word w r.0.name.word (and_right (such r.0.kind) (has_word w r.0.name) r.2)),
     )
 
-pub has_declared : (raw : RawNetlist) (such : DeclKind → Bool) (w : List ℕ) (d : RawDecl) → Has raw.decls d → such d.kind ≡ true
+pub has_declared : (raw : RawNetlist) (such : DeclKind → Bool) (w : List ℕ) (d : RawDecl) → Has raw.decls d
+    → such d.kind ≡ true
     → d.name.word ≡ w → is_declared raw such w ≡ true
 has_declared raw such w d has s e =
     has_any (λ (d : RawDecl). such d.kind && has_word w d.name) raw.decls d has
     (and_true (such d.kind) (has_word w d.name) s (word_is w d.name.word (sym e)))
 
-pub other_declared : (raw : RawNetlist) (such other : DeclKind → Bool) → ((k : DeclKind) → such k ≡ true → other k ≡ true) → (w : List ℕ)
+pub other_declared : (raw : RawNetlist) (such other : DeclKind → Bool)
+    → ((k : DeclKind) → such k ≡ true → other k ≡ true) → (w : List ℕ)
     → is_declared raw such w ≡ true → is_declared raw other w ≡ true
 other_declared raw such other implies w h =
     let d = declared_has raw such w h in has_declared raw other w d.0 d.1 (implies d.0.kind d.2) d.3
@@ -179,7 +189,8 @@ module _ (raw : RawNetlist) (u : Unbroken raw) where
       let d = declared_has raw is_reg w reg in
       either (is_named (gate_targets raw) w) refl
       (sym (list_any-append (has_word w) (gate_targets raw) (reg_targets raw))
-      ∙ subst (λ v. is_named (gate_targets raw ++ reg_targets raw) v ≡ true) d.3 (u.driven d.0 d.1 (no_input d.0.kind d.2)))
+      ∙ subst (λ v. is_named (gate_targets raw ++ reg_targets raw) v ≡ true) d.3
+      (u.driven d.0 d.1 (no_input d.0.kind d.2)))
     where
       no_input : (k : DeclKind) → is_reg k ≡ true → is_input k ≡ false
       no_input kind.Input h = sym h
@@ -199,7 +210,8 @@ module _ (raw : RawNetlist) (u : Unbroken raw) where
   pub input_listed : (w : List ℕ) → is_plain_input raw w ≡ true → is_named (inputs raw) w ≡ true
   input_listed w h =
       let d = declared_has raw is_input w (and_left (is_declared raw is_input w) (not (is_clock w || is_reset w)) h) in
-      let n = named_has raw.ports d.0.name.word (u.ports_listed d.0 d.1 (or_left (is_input d.0.kind) (is_output d.0.kind) d.2)) in
+      let n = named_has raw.ports d.0.name.word
+      (u.ports_listed d.0 d.1 (or_left (is_input d.0.kind) (is_output d.0.kind) d.2)) in
       has_named (inputs raw) w n.0
       (has_filter (λ (n : RawName). is_plain_input raw n.word) raw.ports n.0 n.1
       (subst (λ v. is_plain_input raw v ≡ true) (sym (n.2 ∙ d.3)) h)) (n.2 ∙ d.3)

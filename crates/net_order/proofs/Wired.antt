@@ -24,19 +24,24 @@ use Rattle.vlog_text.specs.declared.raw.RawPin.TheVariants as pin
 use Rattle.vlog_text.specs.declared.raw.Target.{Target}
 use Rattle.vlog_text.specs.declared.raw.Target.TheVariants as target
 use Rattle.vlog_text.specs.Raw.{IsRaw, IsInner, IsOperand}
-use Rattle.vlog_text.specs.Words.{has_word, is_named, decl_names, gate_targets, reg_targets, operands, uses, pin_name, target_name}
+use Rattle.vlog_text.specs.Words.{has_word, is_named, decl_names, gate_targets, reg_targets, operands, uses, pin_name}
+use Rattle.vlog_text.specs.Words.{target_name}
 use Rattle.vlog_text.specs.Orders.{is_among, first_from, then_on, order_from, place_in, renumbered, moved, reordered}
-use Rattle.vlog_text.specs.Standing.{is_input, is_output, is_reg, is_port, is_declared, is_plain_input, inputs, outputs, registers}
-use Rattle.vlog_text.specs.Standing.{number_of, drives, driver, word_wire, pin_wire, resolved, text_gates, the_order, data_wire, register_wire}
+use Rattle.vlog_text.specs.Standing.{is_input, is_output, is_reg, is_port, is_declared, is_plain_input, inputs, outputs}
+use Rattle.vlog_text.specs.Standing.{registers}
+use Rattle.vlog_text.specs.Standing.{number_of, drives, driver, word_wire, pin_wire, resolved, text_gates, the_order}
+use Rattle.vlog_text.specs.Standing.{data_wire, register_wire}
 use Rattle.vlog_text.specs.Refusing.{item_target, target_or, left_out}
 use Rattle.net_order.specs.Queues.{Has}
 use Rattle.net_order.proofs.Tests.{true_or_false, differs}
 use Rattle.net_order.proofs.Waking.{some_at}
 use Rattle.net_order.proofs.Bridge.{order_same}
 use Rattle.net_order.proofs.Placing.{order_there}
-use Rattle.net_order.proofs.NameLists.{same_word, word_is, has_any, map_at, filter_has, has_filter_map, filter_map_has, filter_map_long}
+use Rattle.net_order.proofs.NameLists.{same_word, word_is, has_any, map_at, filter_has, has_filter_map, filter_map_has}
+use Rattle.net_order.proofs.NameLists.{filter_map_long}
 use Rattle.net_order.proofs.NameLists.{has_right, find_has, Stands, first_place, named_has}
-use Rattle.net_order.proofs.Unbroken.{Unbroken, declared_has, has_declared, other_declared, gate_driven, input_listed, register_listed}
+use Rattle.net_order.proofs.Unbroken.{Unbroken, declared_has, has_declared, other_declared, gate_driven, input_listed}
+use Rattle.net_order.proofs.Unbroken.{register_listed}
 
 -- ---- no gate is left out
 
@@ -70,7 +75,8 @@ none_left order n (g ∷ gs) last e k within =
 
 -- ---- the order's length
 
-order_short : (gates : List gate.Gate) (left : ℕ) (taken : List ℕ) → length (order_from gates left taken) ≤ length taken + left
+order_short : (gates : List gate.Gate) (left : ℕ) (taken : List ℕ)
+    → length (order_from gates left taken) ≤ length taken + left
 order_short gates zero taken = omega arith
 order_short gates (suc left) taken = go (first_from taken zero gates) (λ n. order_short gates left (taken ++ n ∷ []))
   where
@@ -88,7 +94,8 @@ still_there i r g order (wire.Reg n) h = h
 still_there i r g order (wire.Gate n) h = absurd (omega arith)
 
 number_below : (names : List RawName) (w : List ℕ) → is_named names w ≡ true → number_of names w < length names
-number_below names w h = let s = first_place (has_word w) names h in slice_get_within names (number_of names w) s.item s.is
+number_below names w h =
+    let s = first_place (has_word w) names h in slice_get_within names (number_of names w) s.item s.is
 
 -- how many things the circuit has
 abbrev pub input_count : RawNetlist → ℕ
@@ -104,7 +111,8 @@ pub ordered_count : (raw : RawNetlist) → gate_count raw ≡ length (the_order 
 ordered_count raw =
     filter_map_long (λ n. option_map (moved (the_order raw)) (slice_get (text_gates raw) n)) (the_order raw) (λ n has.
     let g = some_at (text_gates raw) n
-    (order_there (text_gates raw) has.place n (ap (λ xs. slice_get xs has.place) (sym (order_same (text_gates raw))) ∙ has.is)) in
+    (order_there (text_gates raw) has.place n
+    (ap (λ xs. slice_get xs has.place) (sym (order_same (text_gates raw))) ∙ has.is)) in
     (moved (the_order raw) g.0, ap (λ o. option_map (moved (the_order raw)) o) g.1))
 
 pub gates_short : (raw : RawNetlist) → gate_count raw ≤ length raw.gates
@@ -142,7 +150,8 @@ module _ (raw : RawNetlist) (r : IsRaw raw) (u : Unbroken raw) where
   place_apart m n p q e =
       let s = place_stands m p in
       let t = place_stands n q in
-      let same : s.item ≡ t.item = same_Some s.item t.item (sym s.is ∙ ap (λ i. slice_get (the_order raw) i) e ∙ t.is) in
+      let same : s.item ≡ t.item
+      = same_Some s.item t.item (sym s.is ∙ ap (λ i. slice_get (the_order raw) i) e ∙ t.is) in
       eqb-true m s.item s.passes ∙ same ∙ sym (eqb-true n t.item t.passes)
 
   driver_stands : (w : List ℕ) → is_named (gate_targets raw) w ≡ true
@@ -154,7 +163,8 @@ module _ (raw : RawNetlist) (r : IsRaw raw) (u : Unbroken raw) where
       (has_any (λ (g : RawGate). drives w (target_name g.target)) raw.gates g.0 g.1
       (ap (λ o. drives w o) g.2 ∙ word_is w n.0.word (sym n.2)))
 
-  pub driver_there : (w : List ℕ) → is_named (gate_targets raw) w ≡ true → place_in (the_order raw) (driver raw w) < gate_count raw
+  pub driver_there : (w : List ℕ) → is_named (gate_targets raw) w ≡ true
+      → place_in (the_order raw) (driver raw w) < gate_count raw
   driver_there w h =
       let s = driver_stands w h in
       place_below (driver raw w) (slice_get_within raw.gates (driver raw w) s.item s.is)
@@ -167,7 +177,8 @@ module _ (raw : RawNetlist) (r : IsRaw raw) (u : Unbroken raw) where
       let t = driver_stands w k in
       let drivers = place_apart (driver raw v) (driver raw w) (slice_get_within raw.gates (driver raw v) s.item s.is)
       (slice_get_within raw.gates (driver raw w) t.item t.is) e in
-      let same : s.item ≡ t.item = same_Some s.item t.item (sym s.is ∙ ap (λ i. slice_get raw.gates i) drivers ∙ t.is) in
+      let same : s.item ≡ t.item
+      = same_Some s.item t.item (sym s.is ∙ ap (λ i. slice_get raw.gates i) drivers ∙ t.is) in
       one_word (target_name t.item.target) v w
       (subst (λ (g : RawGate). drives v (target_name g.target) ≡ true) same s.passes) t.passes
 
@@ -195,7 +206,8 @@ module _ (raw : RawNetlist) (r : IsRaw raw) (u : Unbroken raw) where
           → word_wire raw w ≡ as_register c → Goal
       registered true s other e =
           let below = number_below (registers raw) w (register_listed raw u w s) in
-          there (wire.Reg (number_of (registers raw) w)) e (omega (arith, below, length-map (registers raw) (register_wire raw)))
+          there (wire.Reg (number_of (registers raw) w)) e
+          (omega (arith, below, length-map (registers raw) (register_wire raw)))
       registered false s other e = inr (record { is = e; no_input = other; no_register = s })
 
       reset : (b : Bool) → is_declared raw is_input w ≡ b → word_wire raw w ≡ as_reset b → Goal
@@ -220,8 +232,10 @@ module _ (raw : RawNetlist) (r : IsRaw raw) (u : Unbroken raw) where
         subst (λ x. IsThere (input_count raw) (register_count raw) n x) (sym e)
         (still_there (input_count raw) (register_count raw) n (the_order raw) (word_wire raw name.word) t)
     | inr g ↦
-        let is : v ≡ wire.Gate (place_in (the_order raw) (driver raw name.word)) = e ∙ ap (renumbered (the_order raw)) g.is in
-        subst (λ x. IsThere (input_count raw) (register_count raw) n x) (sym is) (below (place_in (the_order raw) (driver raw name.word)) is)
+        let is : v ≡ wire.Gate (place_in (the_order raw) (driver raw name.word))
+        = e ∙ ap (renumbered (the_order raw)) g.is in
+        subst (λ x. IsThere (input_count raw) (register_count raw) n x) (sym is)
+        (below (place_in (the_order raw) (driver raw name.word)) is)
   ]
 
   gate_word : (w : List ℕ) → is_named (decl_names raw) w ≡ true → GateWord raw w → is_named (gate_targets raw) w ≡ true
@@ -241,15 +255,20 @@ module _ (raw : RawNetlist) (r : IsRaw raw) (u : Unbroken raw) where
   operand_there (pin.Const b) h used = tt
   operand_there (pin.Prior k) h used = absurd h
   operand_there (pin.Name name) h used = elim (word_there name.word) [
-    | inl t ↦ still_there (input_count raw) (register_count raw) (gate_count raw) (the_order raw) (word_wire raw name.word) t
+    | inl t ↦ still_there (input_count raw) (register_count raw) (gate_count raw) (the_order raw)
+        (word_wire raw name.word) t
     | inr g ↦
-        subst (λ x. IsThere (input_count raw) (register_count raw) (gate_count raw) (renumbered (the_order raw) x)) (sym g.is)
+        subst (λ x. IsThere (input_count raw) (register_count raw) (gate_count raw) (renumbered (the_order raw) x))
+        (sym g.is)
         (driver_there name.word (gate_word name.word (u.uses_declared name (used name refl)) g))
   ]
 
   -- what a register takes
-  pub register_there : (n : RawName) → IsThere (input_count raw) (register_count raw) (gate_count raw) (register_wire raw n)
-  register_there n = go (find (λ (r : RawReg). has_word n.word r.target) raw.regs) (λ x e. find_has (λ (r : RawReg). has_word n.word r.target) raw.regs x e)
+  pub register_there : (n : RawName)
+      → IsThere (input_count raw) (register_count raw) (gate_count raw) (register_wire raw n)
+  register_there n =
+      go (find (λ (r : RawReg). has_word n.word r.target) raw.regs)
+      (λ x e. find_has (λ (r : RawReg). has_word n.word r.target) raw.regs x e)
     where
       go : (o : Option RawReg) → ((x : RawReg) → o ≡ Some x → Has raw.regs x)
           → IsThere (input_count raw) (register_count raw) (gate_count raw) (data_wire raw o)

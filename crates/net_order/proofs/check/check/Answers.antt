@@ -30,7 +30,8 @@ gates-requires-clause-registers c = λ w n e.
 
 pub mark_taken-requires : goal.mark_taken-requires
 mark_taken-requires c = λ i n e.
-    let there = c.in_ok-order.ensures.there i n (subst (λ (xs : List ℕ). slice_get xs i ≡ Some n) c.deref.ensures.value e) in
+    let there = c.in_ok-order.ensures.there i n
+    (subst (λ (xs : List ℕ). slice_get xs i ≡ Some n) c.deref.ensures.value e) in
     let same = ap length c.as_slice-2.ensures in
     omega (arith, there, same, c.len.ensures)
 
@@ -46,7 +47,8 @@ returns-clause-found c =
     λ n. ap (λ (bits : List Bool). marked bits n) c.deref-2.ensures.value ∙ c.in_ok-taken.ensures.taken n
     ∙ ap (λ (xs : List ℕ). is_among xs n) (c.deref.ensures.value ∙ c.in_ok-order.ensures.order) in
     c.first_of-found.ensures
-    ∙ first_of raw c.in_ok-naming.naming.found c.in_ok-driving.driving.found c.check_taken-late.result c.in_ok-clock.clock
+    ∙ first_of raw c.in_ok-naming.naming.found c.in_ok-driving.driving.found c.check_taken-late.result
+    c.in_ok-clock.clock
     c.check_counts-counts.result c.in_ok-naming.ensures.found c.in_ok-driving.ensures.found
     (c.check_taken-late.ensures (the_order raw) same
     ∙ ap (λ (gs : List RawGate). earliest None (refusals 6 (left_out (the_order raw) 0 gs))) c.as_slice-3.ensures)

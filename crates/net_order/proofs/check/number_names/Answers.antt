@@ -19,7 +19,8 @@ returns c =
       inputs_are = subst (λ (ns : List RawName). IsFirsts (map (λ (n : RawName). Some n) ns) c.in_ok-inputs.inputs)
           (ap (λ (ns : List RawName). filter_map (plain_name kinds) ns) c.as_slice.ensures
           ∙ plain_names raw kinds c.requires.kinds.knows raw.ports) c.in_ok-inputs.ensures;
-      registers_are = subst (λ (ns : List RawName). IsFirsts (map (λ (n : RawName). Some n) ns) c.in_ok-registers.registers)
+      registers_are =
+          subst (λ (ns : List RawName). IsFirsts (map (λ (n : RawName). Some n) ns) c.in_ok-registers.registers)
           names c.in_ok-registers.ensures.firsts;
       registers_few = subst (λ (ns : List RawName). length ns < 4294967295) names c.in_ok-registers.ensures.few;
       gates_are = c.requires.gates;

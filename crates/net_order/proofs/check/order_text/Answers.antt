@@ -12,10 +12,12 @@ pub order-requires : goal.order-requires
 order-requires c =
     subst (λ (gs : List gate.Gate). AllNamed (length c.args.gates.now) gs) (sym c.requires.gates)
     (all_named c.args.raw.now c.requires.raw (length c.args.gates.now)
-    (ap length c.requires.gates ∙ length-map c.args.raw.now.gates (λ (g : RawGate). capped_gate (resolved c.args.raw.now g))))
+    (ap length c.requires.gates
+    ∙ length-map c.args.raw.now.gates (λ (g : RawGate). capped_gate (resolved c.args.raw.now g))))
 
 pub returns-clause-order : goal.returns-clause-order
-returns-clause-order c = order_is c.args.raw.now c.args.gates.now c.in_ok-order.field-0.items c.requires.gates c.in_ok-order.ensures
+returns-clause-order c =
+    order_is c.args.raw.now c.args.gates.now c.in_ok-order.field-0.items c.requires.gates c.in_ok-order.ensures
 
 pub returns-clause-there : goal.returns-clause-there
 returns-clause-there c = order_below c.args.gates.now c.in_ok-order.field-0.items c.in_ok-order.ensures

@@ -11,7 +11,8 @@ use Rattle.net_order.proofs.driving.note_undriven.Goals as goal
 pub loop-decl-preserved : goal.loop-decl-preserved
 loop-decl-preserved c =
     let x = c.decl-item.result in
-    let such : RawDecl → Bool = (λ (d : RawDecl). not (is_input d.kind) && not (is_some (first_in c.args.gates.now d.name.word)
+    let such : RawDecl → Bool
+    = (λ (d : RawDecl). not (is_input d.kind) && not (is_some (first_in c.args.gates.now d.name.word)
     || is_some (first_in c.args.regs.now d.name.word))) in
     noted_more (λ (ds : List RawDecl). map (λ (d : RawDecl). d.name) (filter such ds))
     (λ (d : RawDecl). when (such d) d.name) (decl_opens such) 5 c.args.decls.now c.loop-decl.decl-index x

@@ -8,7 +8,13 @@ use Rattle.net_order.proofs.driving.note_undriven.Given as goal
 
 abbrev pub invariant-loop-decl : goal.invariant-loop-decl
 invariant-loop-decl l =
-    earliest l.found (refusals 5 (map (λ (d : RawDecl). d.name) (filter (λ (d : RawDecl). not (is_input d.kind) && not (is_some (first_in l.gates d.name.word)
+    earliest l.found
+    (refusals 5
+    (map (λ (d : RawDecl). d.name)
+    (filter (λ (d : RawDecl). not (is_input d.kind) && not (is_some (first_in l.gates d.name.word)
     || is_some (first_in l.regs d.name.word))) (drop l.decl-index l.decls))))
-    ≡ earliest l.initial.found (refusals 5 (map (λ (d : RawDecl). d.name) (filter (λ (d : RawDecl). not (is_input d.kind) && not (is_some (first_in l.gates d.name.word)
+    ≡ earliest l.initial.found
+    (refusals 5
+    (map (λ (d : RawDecl). d.name)
+    (filter (λ (d : RawDecl). not (is_input d.kind) && not (is_some (first_in l.gates d.name.word)
     || is_some (first_in l.regs d.name.word))) l.decls)))

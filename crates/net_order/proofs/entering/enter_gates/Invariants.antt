@@ -8,4 +8,5 @@ use Rattle.net_order.proofs.Entries.{Entered}
 use Rattle.net_order.proofs.entering.enter_gates.Given as goal
 
 abbrev pub invariant-loop-place : goal.invariant-loop-place
-invariant-loop-place l = Entered (λ (g : RawGate). target_name g.target) 5 l.gates l.place l.firsts l.initial.found l.found
+invariant-loop-place l =
+    Entered (λ (g : RawGate). target_name g.target) 5 l.gates l.place l.firsts l.initial.found l.found

@@ -15,10 +15,13 @@ loop-place-preserved c =
 
 pub returns-clause-firsts : goal.returns-clause-firsts
 returns-clause-firsts c =
-    entered_firsts (λ (n : RawName). Some n) 4 c.args.ports.now c.loop-place.place c.loop-place.firsts c.args.found c.loop-place.found
+    entered_firsts (λ (n : RawName). Some n) 4 c.args.ports.now c.loop-place.place c.loop-place.firsts c.args.found
+    c.loop-place.found
     c.loop-place.invariant (omega arith)
 
 pub returns-clause-found : goal.returns-clause-found
 returns-clause-found c =
-    entered_found (λ (n : RawName). Some n) 4 c.args.ports.now c.loop-place.place c.loop-place.firsts c.args.found c.loop-place.found
-    c.loop-place.invariant (omega arith) ∙ ap (λ ns. earliest c.args.found (refusals 4 (repeated [] ns))) (all_present c.args.ports.now)
+    entered_found (λ (n : RawName). Some n) 4 c.args.ports.now c.loop-place.place c.loop-place.firsts c.args.found
+    c.loop-place.found
+    c.loop-place.invariant (omega arith)
+    ∙ ap (λ ns. earliest c.args.found (refusals 4 (repeated [] ns))) (all_present c.args.ports.now)

@@ -11,7 +11,8 @@ use Rattle.net_order.proofs.naming.note_unlisted.Goals as goal
 pub loop-decl-preserved : goal.loop-decl-preserved
 loop-decl-preserved c =
     let x = c.decl-item.result in
-    let such : RawDecl → Bool = (λ (d : RawDecl). is_port d.kind && not (is_some (first_in c.args.listed.now d.name.word))) in
+    let such : RawDecl → Bool
+    = (λ (d : RawDecl). is_port d.kind && not (is_some (first_in c.args.listed.now d.name.word))) in
     noted_more (λ (ds : List RawDecl). map (λ (d : RawDecl). d.name) (filter such ds))
     (λ (d : RawDecl). when (such d) d.name) (decl_opens such) 4 c.args.decls.now c.loop-decl.decl-index x
     c.loop-decl.found c.note_if-found.result (omega arith) c.decl-item.is

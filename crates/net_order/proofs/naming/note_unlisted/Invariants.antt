@@ -8,5 +8,12 @@ use Rattle.net_order.proofs.naming.note_unlisted.Given as goal
 
 abbrev pub invariant-loop-decl : goal.invariant-loop-decl
 invariant-loop-decl l =
-    earliest l.found (refusals 4 (map (λ (d : RawDecl). d.name) (filter (λ (d : RawDecl). is_port d.kind && not (is_some (first_in l.listed d.name.word))) (drop l.decl-index l.decls))))
-    ≡ earliest l.initial.found (refusals 4 (map (λ (d : RawDecl). d.name) (filter (λ (d : RawDecl). is_port d.kind && not (is_some (first_in l.listed d.name.word))) l.decls)))
+    earliest l.found
+    (refusals 4
+    (map (λ (d : RawDecl). d.name)
+    (filter (λ (d : RawDecl). is_port d.kind && not (is_some (first_in l.listed d.name.word)))
+    (drop l.decl-index l.decls))))
+    ≡ earliest l.initial.found
+    (refusals 4
+    (map (λ (d : RawDecl). d.name)
+    (filter (λ (d : RawDecl). is_port d.kind && not (is_some (first_in l.listed d.name.word))) l.decls)))

@@ -9,7 +9,8 @@ pub loop-name-preserved : goal.loop-name-preserved
 loop-name-preserved c =
     let x = c.name-item.result in
     let kinds = kinds_in c.args.kinds.now in
-    let test : c.is_plain-is_one.result ≡ is_plain (kinds x.word) x.word = c.is_plain-is_one.ensures ∙ ap (λ k. is_plain k x.word) c.of.ensures in
+    let test : c.is_plain-is_one.result ≡ is_plain (kinds x.word) x.word
+    = c.is_plain-is_one.ensures ∙ ap (λ k. is_plain k x.word) c.of.ensures in
     numbered_more (plain_name kinds) c.args.ports.now c.loop-name.name-index x c.loop-name.firsts
     c.number_if.new.firsts c.loop-name.count c.in_ok-count.count (omega arith) c.name-item.is c.loop-name.invariant
     (subst (λ b. Learns c.loop-name.firsts c.number_if.new.firsts (cond b (Some x) None) c.loop-name.count) test

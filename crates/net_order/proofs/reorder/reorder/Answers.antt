@@ -17,6 +17,9 @@ loop-gate-preserved c =
     let next : c.in_ok-next.next ≡ moved (place_from 0 c.args.order.now) x =
     c.in_ok-next.ensures
     ∙ ap (λ (places : List ℕ). moved (slice_index places) x) c.deref.ensures.value
-    ∙ moved_same (slice_index c.in_ok-places.places.items) (place_from 0 c.args.order.now) (length c.args.gates.now) x c.in_ok-places.ensures.places (record { each = λ i m e. c.requires.named.each n x i m at e }) in
+    ∙ moved_same (slice_index c.in_ok-places.places.items) (place_from 0 c.args.order.now)
+    (length c.args.gates.now) x c.in_ok-places.ensures.places
+    (record { each = λ i m e. c.requires.named.each n x i m at e }) in
     c.in_ok-push.ensures.ok ∙ ap (λ xs. xs ++ c.in_ok-next.next ∷ []) c.loop-gate.invariant
-    ∙ moved_more c.args.gates.now (place_from 0 c.args.order.now) c.args.order.now k n x c.in_ok-next.next (omega arith) refl at next
+    ∙ moved_more c.args.gates.now (place_from 0 c.args.order.now) c.args.order.now k n x c.in_ok-next.next
+    (omega arith) refl at next

@@ -6,4 +6,6 @@ use Rattle.std.specs.Prelude.{slice_get}
 use Rattle.net_order.proofs.reorder.reorder.Given as goal
 
 abbrev pub invariant-loop-gate : goal.invariant-loop-gate
-invariant-loop-gate l = l.new ≡ filter_map (λ n. option_map (moved (place_from 0 l.order)) (slice_get l.gates n)) (take l.gate-index l.order)
+invariant-loop-gate l =
+    l.new ≡ filter_map (λ n. option_map (moved (place_from 0 l.order)) (slice_get l.gates n))
+    (take l.gate-index l.order)

@@ -16,7 +16,8 @@ loop-reg-preserved c =
     let fault = c.args.fault in
     let kinds = kinds_in c.args.kinds.now in
     let x = c.reg-item.result in
-    noted_more (λ (xs : List RawReg). faulty fault kinds (filter_map (λ (r : RawReg). pin_name r.wire) (xs))) (λ (r : RawReg). faulty fault kinds (named_pin r.wire))
+    noted_more (λ (xs : List RawReg). faulty fault kinds (filter_map (λ (r : RawReg). pin_name r.wire) (xs)))
+    (λ (r : RawReg). faulty fault kinds (named_pin r.wire))
     (data_opens fault kinds) c.args.rule c.args.regs.now c.loop-reg.reg-index x c.loop-reg.found c.note_pin-found.result
     (omega arith) c.reg-item.is c.note_pin-found.ensures
     ∙ c.loop-reg.invariant

@@ -12,5 +12,8 @@ use Rattle.net_order.proofs.rows.note_data.Given as goal
 
 abbrev pub invariant-loop-reg : goal.invariant-loop-reg
 invariant-loop-reg l =
-    earliest l.found (refusals l.rule (faulty l.fault (kinds_in l.kinds) (filter_map (λ (r : RawReg). pin_name r.wire) (drop l.reg-index l.regs))))
-    ≡ earliest l.initial.found (refusals l.rule (faulty l.fault (kinds_in l.kinds) (filter_map (λ (r : RawReg). pin_name r.wire) (l.regs))))
+    earliest l.found
+    (refusals l.rule
+    (faulty l.fault (kinds_in l.kinds) (filter_map (λ (r : RawReg). pin_name r.wire) (drop l.reg-index l.regs))))
+    ≡ earliest l.initial.found
+    (refusals l.rule (faulty l.fault (kinds_in l.kinds) (filter_map (λ (r : RawReg). pin_name r.wire) (l.regs))))

@@ -16,8 +16,11 @@ loop-gate-preserved c =
     let fault = c.args.fault in
     let kinds = kinds_in c.args.kinds.now in
     let x = c.gate-item.result in
-    noted_more (λ (xs : List RawGate). faulty fault kinds (flat_map (λ (g : RawGate). filter_map pin_name g.pins) (xs))) (λ (g : RawGate). faulty fault kinds (filter_map pin_name g.pins))
-    (gate_opens fault kinds) c.args.rule c.args.gates.now c.loop-gate.gate-index x c.loop-gate.found c.note_pins-found.result
+    noted_more (λ (xs : List RawGate). faulty fault kinds (flat_map (λ (g : RawGate). filter_map pin_name g.pins) (xs)))
+    (λ (g : RawGate). faulty fault kinds (filter_map pin_name g.pins))
+    (gate_opens fault kinds) c.args.rule c.args.gates.now c.loop-gate.gate-index x c.loop-gate.found
+    c.note_pins-found.result
     (omega arith) c.gate-item.is (c.note_pins-found.ensures
-    ∙ ap (λ (ps : List RawPin). earliest c.loop-gate.found (refusals c.args.rule (faulty fault kinds (filter_map pin_name ps)))) c.as_slice.ensures)
+    ∙ ap (λ (ps : List RawPin). earliest c.loop-gate.found
+    (refusals c.args.rule (faulty fault kinds (filter_map pin_name ps)))) c.as_slice.ensures)
     ∙ c.loop-gate.invariant

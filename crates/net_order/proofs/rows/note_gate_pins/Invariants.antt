@@ -12,5 +12,10 @@ use Rattle.net_order.proofs.rows.note_gate_pins.Given as goal
 
 abbrev pub invariant-loop-gate : goal.invariant-loop-gate
 invariant-loop-gate l =
-    earliest l.found (refusals l.rule (faulty l.fault (kinds_in l.kinds) (flat_map (λ (g : RawGate). filter_map pin_name g.pins) (drop l.gate-index l.gates))))
-    ≡ earliest l.initial.found (refusals l.rule (faulty l.fault (kinds_in l.kinds) (flat_map (λ (g : RawGate). filter_map pin_name g.pins) (l.gates))))
+    earliest l.found
+    (refusals l.rule
+    (faulty l.fault (kinds_in l.kinds)
+    (flat_map (λ (g : RawGate). filter_map pin_name g.pins) (drop l.gate-index l.gates))))
+    ≡ earliest l.initial.found
+    (refusals l.rule
+    (faulty l.fault (kinds_in l.kinds) (flat_map (λ (g : RawGate). filter_map pin_name g.pins) (l.gates))))

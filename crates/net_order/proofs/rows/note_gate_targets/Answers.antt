@@ -16,7 +16,9 @@ loop-gate-preserved c =
     let fault = c.args.fault in
     let kinds = kinds_in c.args.kinds.now in
     let x = c.gate-item.result in
-    noted_more (λ (xs : List RawGate). faulty fault kinds (filter_map (λ (g : RawGate). target_name g.target) (xs))) (λ (g : RawGate). faulty fault kinds (named_target g.target))
-    (target_opens fault kinds) c.args.rule c.args.gates.now c.loop-gate.gate-index x c.loop-gate.found c.note_target-found.result
+    noted_more (λ (xs : List RawGate). faulty fault kinds (filter_map (λ (g : RawGate). target_name g.target) (xs)))
+    (λ (g : RawGate). faulty fault kinds (named_target g.target))
+    (target_opens fault kinds) c.args.rule c.args.gates.now c.loop-gate.gate-index x c.loop-gate.found
+    c.note_target-found.result
     (omega arith) c.gate-item.is c.note_target-found.ensures
     ∙ c.loop-gate.invariant

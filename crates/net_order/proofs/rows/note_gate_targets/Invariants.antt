@@ -12,5 +12,9 @@ use Rattle.net_order.proofs.rows.note_gate_targets.Given as goal
 
 abbrev pub invariant-loop-gate : goal.invariant-loop-gate
 invariant-loop-gate l =
-    earliest l.found (refusals l.rule (faulty l.fault (kinds_in l.kinds) (filter_map (λ (g : RawGate). target_name g.target) (drop l.gate-index l.gates))))
-    ≡ earliest l.initial.found (refusals l.rule (faulty l.fault (kinds_in l.kinds) (filter_map (λ (g : RawGate). target_name g.target) (l.gates))))
+    earliest l.found
+    (refusals l.rule
+    (faulty l.fault (kinds_in l.kinds)
+    (filter_map (λ (g : RawGate). target_name g.target) (drop l.gate-index l.gates))))
+    ≡ earliest l.initial.found
+    (refusals l.rule (faulty l.fault (kinds_in l.kinds) (filter_map (λ (g : RawGate). target_name g.target) (l.gates))))

@@ -17,7 +17,8 @@ loop-name-preserved c =
     let kinds = kinds_in c.args.kinds.now in
     let x = c.name-item.result in
     noted_more (λ (xs : List RawName). faulty fault kinds (xs)) (λ (x : RawName). when (has_fault fault kinds x.word) x)
-    (name_opens fault kinds) c.args.rule c.args.names.now c.loop-name.name-index x c.loop-name.found c.note_if-found.result
+    (name_opens fault kinds) c.args.rule c.args.names.now c.loop-name.name-index x c.loop-name.found
+    c.note_if-found.result
     (omega arith) c.name-item.is (c.note_if-found.ensures
     ∙ ap (λ b. earliest c.loop-name.found (refusals c.args.rule (when b x))) c.has_fault.ensures)
     ∙ c.loop-name.invariant

@@ -16,7 +16,8 @@ loop-pin-preserved c =
     let fault = c.args.fault in
     let kinds = kinds_in c.args.kinds.now in
     let x = c.pin-item.result in
-    noted_more (λ (xs : List RawPin). faulty fault kinds (filter_map pin_name (xs))) (λ (p : RawPin). faulty fault kinds (named_pin p))
+    noted_more (λ (xs : List RawPin). faulty fault kinds (filter_map pin_name (xs)))
+    (λ (p : RawPin). faulty fault kinds (named_pin p))
     (pin_opens fault kinds) c.args.rule c.args.pins.now c.loop-pin.pin-index x c.loop-pin.found c.note_pin-found.result
     (omega arith) c.pin-item.is c.note_pin-found.ensures
     ∙ c.loop-pin.invariant

@@ -12,5 +12,6 @@ use Rattle.net_order.proofs.rows.note_pins.Given as goal
 
 abbrev pub invariant-loop-pin : goal.invariant-loop-pin
 invariant-loop-pin l =
-    earliest l.found (refusals l.rule (faulty l.fault (kinds_in l.kinds) (filter_map pin_name (drop l.pin-index l.pins))))
+    earliest l.found
+    (refusals l.rule (faulty l.fault (kinds_in l.kinds) (filter_map pin_name (drop l.pin-index l.pins))))
     ≡ earliest l.initial.found (refusals l.rule (faulty l.fault (kinds_in l.kinds) (filter_map pin_name (l.pins))))

@@ -12,5 +12,7 @@ use Rattle.net_order.proofs.rows.note_reg_targets.Given as goal
 
 abbrev pub invariant-loop-reg : goal.invariant-loop-reg
 invariant-loop-reg l =
-    earliest l.found (refusals l.rule (faulty l.fault (kinds_in l.kinds) (map (λ (r : RawReg). r.target) (drop l.reg-index l.regs))))
-    ≡ earliest l.initial.found (refusals l.rule (faulty l.fault (kinds_in l.kinds) (map (λ (r : RawReg). r.target) (l.regs))))
+    earliest l.found
+    (refusals l.rule (faulty l.fault (kinds_in l.kinds) (map (λ (r : RawReg). r.target) (drop l.reg-index l.regs))))
+    ≡ earliest l.initial.found
+    (refusals l.rule (faulty l.fault (kinds_in l.kinds) (map (λ (r : RawReg). r.target) (l.regs))))
