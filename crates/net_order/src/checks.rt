@@ -43,7 +43,7 @@ fn note_item(gates: &[RawGate], start: usize) -> Option<Refusal>
 }
 
 /// The target of the item that has the first gate that is never taken.
-pub fn check_taken(gates: &[RawGate], taken: &[bool]) -> Option<Refusal>
+pub(crate) fn check_taken(gates: &[RawGate], taken: &[bool]) -> Option<Refusal>
     requires { length taken.now ≡ length gates.now }
     ensures { (order : List ℕ) → ((n : ℕ) → marked taken.now n ≡ is_among order n)
         → result ≡ earliest None (refusals 6 (left_out order 0 gates.now)) }
@@ -59,7 +59,7 @@ fn is_input(alloc: Global, kinds: &KindTable, word: &[u8]) -> Result<bool, Memor
 }
 
 /// Where rule 7 is broken first.
-pub fn check_clock(
+pub(crate) fn check_clock(
     alloc: Global,
     raw: &RawNetlist,
     kinds: &KindTable,
@@ -128,7 +128,7 @@ fn note_one_too_many(
 }
 
 /// Where rule 8 is broken first.
-pub fn check_counts(raw: &RawNetlist) -> Option<Refusal>
+pub(crate) fn check_counts(raw: &RawNetlist) -> Option<Refusal>
     ensures { result ≡ earliest None (refusals 8 (rule_8 raw.now)) }
 {
     let found = note_one_too_many(raw.decls.as_slice(), Counted::Inputs, 64, None);

@@ -49,7 +49,7 @@ fn enter_target(
 }
 
 /// The listed names, and those that are listed twice.
-pub fn enter_ports(
+pub(crate) fn enter_ports(
     alloc: Global,
     ports: &[RawName],
     found: Option<Refusal>,
@@ -66,7 +66,7 @@ pub fn enter_ports(
 }
 
 /// The names that gates drive, and those that are driven twice.
-pub fn enter_gates(
+pub(crate) fn enter_gates(
     alloc: Global,
     gates: &[RawGate],
     found: Option<Refusal>,
@@ -84,7 +84,7 @@ pub fn enter_gates(
 }
 
 /// The registers that are driven, and those that are driven twice.
-pub fn enter_regs(
+pub(crate) fn enter_regs(
     alloc: Global,
     regs: &[RawReg],
     found: Option<Refusal>,

@@ -84,13 +84,13 @@ impl KindTable {
     }
 }
 
-pub fn is_clock(word: &Word) -> bool
+pub(crate) fn is_clock(word: &Word) -> bool
     ensures { result ≡ is_clock word.now }
 {
     word.bytes() == b"clk".as_slice()
 }
 
-pub fn is_reset(word: &Word) -> bool
+pub(crate) fn is_reset(word: &Word) -> bool
     ensures { result ≡ is_reset word.now }
 {
     word.bytes() == b"rst".as_slice()

@@ -67,7 +67,7 @@ fn note_unlisted(listed: &Firsts, decls: &[RawDecl], found: Option<Refusal>) -> 
 }
 
 /// Where rule 4 is broken first.
-pub fn check_names(alloc: Global, raw: &RawNetlist) -> Result<Naming, Memory>
+pub(crate) fn check_names(alloc: Global, raw: &RawNetlist) -> Result<Naming, Memory>
     ensures kinds { IfOk result (λ n. KnowsKinds raw.now.decls n.kinds) }
     ensures listed { IfOk result (λ n. IsFirsts (map (λ (p : Named). Some p) raw.now.ports) n.listed) }
     ensures found { IfOk result (λ n. n.found ≡ earliest None (refusals 4 (rule_4 raw.now))) }

@@ -35,7 +35,7 @@ fn number_if(
 }
 
 /// The number of each input other than `clk` and `rst`.
-pub fn number_inputs(alloc: Global, kinds: &KindTable, ports: &[RawName]) -> Result<Firsts, Memory>
+pub(crate) fn number_inputs(alloc: Global, kinds: &KindTable, ports: &[RawName]) -> Result<Firsts, Memory>
     ensures { IfOk result (λ firsts. IsFirsts
         (map (λ (n : Named). Some n) (filter_map (plain_name (kinds_in kinds.now)) ports.now)) firsts) }
 {
@@ -55,7 +55,7 @@ fn is_reg(kind: DeclKind) -> bool
 }
 
 /// The number of each register.
-pub fn number_registers(alloc: Global, decls: &[RawDecl]) -> Result<Firsts, Memory>
+pub(crate) fn number_registers(alloc: Global, decls: &[RawDecl]) -> Result<Firsts, Memory>
     ensures firsts { IfOk result (λ firsts. IsFirsts
         (map (λ (n : Named). Some n) (filter_map reg_name decls.now)) firsts) }
     ensures few { IfOk result (λ firsts. length (filter_map reg_name decls.now) < 4294967295) }

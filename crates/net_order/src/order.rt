@@ -37,7 +37,7 @@ fn first_unsettled(pins: &[Wire], start: usize, taken: &[bool]) -> Option<Unsett
     None
 }
 
-pub fn none_taken(alloc: Global, count: usize) -> Result<Vec<bool>, AllocError>
+pub(crate) fn none_taken(alloc: Global, count: usize) -> Result<Vec<bool>, AllocError>
     ensures { IfOk result (λ bits. bits.items ≡ replicate count false) }
 {
     let mut bits = Vec::new(alloc);
@@ -121,7 +121,7 @@ fn settle_each(
 }
 
 /// The numbers of the gates in the order in which they are taken; those that are never taken are left out.
-pub fn order(alloc: Global, gates: &[Gate]) -> Result<Vec<usize>, AllocError>
+pub(crate) fn order(alloc: Global, gates: &[Gate]) -> Result<Vec<usize>, AllocError>
     requires { AllNamed (length gates.now) gates.now }
     ensures { IfOk result (λ order. order.items ≡ order_of gates.now) }
 {

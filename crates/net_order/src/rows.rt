@@ -37,7 +37,7 @@ fn has_fault(fault: Fault, kinds: &KindTable, word: &Word) -> bool
 }
 
 /// Those of the names that have the fault.
-pub fn note_names(
+pub(crate) fn note_names(
     fault: Fault,
     kinds: &KindTable,
     names: &[RawName],
@@ -54,7 +54,7 @@ pub fn note_names(
 }
 
 /// Those of the names that gates drive.
-pub fn note_gate_targets(
+pub(crate) fn note_gate_targets(
     fault: Fault,
     kinds: &KindTable,
     gates: &[RawGate],
@@ -88,7 +88,7 @@ fn note_target(
 }
 
 /// Those of the registers' names.
-pub fn note_reg_targets(
+pub(crate) fn note_reg_targets(
     fault: Fault,
     kinds: &KindTable,
     regs: &[RawReg],
@@ -143,7 +143,7 @@ fn note_pins(
 }
 
 /// Those of the names that gates read.
-pub fn note_gate_pins(
+pub(crate) fn note_gate_pins(
     fault: Fault,
     kinds: &KindTable,
     gates: &[RawGate],
@@ -161,7 +161,7 @@ pub fn note_gate_pins(
 }
 
 /// Those of the names that registers take.
-pub fn note_data(
+pub(crate) fn note_data(
     fault: Fault,
     kinds: &KindTable,
     regs: &[RawReg],
