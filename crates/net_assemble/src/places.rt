@@ -5,7 +5,7 @@ ghost use Rattle.net_order.specs.Moves.{renumbered};
 use net_core::Wire;
 
 /// The gate's place in the order, 0 where it has none.
-pub fn place_of(places: &[u32], gate: usize) -> u32
+pub(crate) fn place_of(places: &[u32], gate: usize) -> u32
     ensures { result ≡ slice_index places.now gate }
 {
     match places.get(gate) {
@@ -15,7 +15,7 @@ pub fn place_of(places: &[u32], gate: usize) -> u32
 }
 
 /// The wire, a gate by its place in the order.
-pub fn renumber(places: &[u32], wire: Wire) -> Wire
+pub(crate) fn renumber(places: &[u32], wire: Wire) -> Wire
     ensures { result ≡ renumbered (slice_index places.now) wire }
 {
     match wire {

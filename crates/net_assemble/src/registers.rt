@@ -51,7 +51,7 @@ fn add_register(
 }
 
 /// The wire that each register takes.
-pub fn register_wires(
+pub(crate) fn register_wires(
     alloc: Global,
     raw: &RawNetlist,
     checked: &Checked,
