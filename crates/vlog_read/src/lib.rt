@@ -2,7 +2,9 @@
 #![tactic(auto)]
 
 mod fail;
+pub mod laws;
 mod read;
 
 pub use fail::VlogFail;
-pub use read::{one_answer, read_netlist};
+pub use laws::one_answer;
+pub use read::read_netlist;

@@ -1,5 +1,5 @@
 use Rattle.vlog_read.proofs.Answers.{ParsesOnce, apart, one_net, one_refusal}
-use Rattle.vlog_read.proofs.read.one_answer.Goals as goal
+use Rattle.vlog_read.proofs.laws.one_answer.Goals as goal
 
 pub returns-clause-net : goal.returns-clause-net
 returns-clause-net c = λ bytes a b.
