@@ -5,9 +5,8 @@ ghost use Rattle.pbs_cli.specs.Answers.{Answer, Defines};
 ghost use Rattle.pbs_cli.specs.Words.{Command, Compile};
 
 use net_eval::laws::one_assignment;
-use net_order::laws::unbroken_is_circuit;
 use pbs_engine::laws::{one_check, one_outcome};
-use vlog_parse::read_is_raw;
+use vlog_read::laws::stands_for_circuit;
 use vlog_read::one_answer as one_netlist;
 
 /// A command other than `compile` has one answer over files that are told.
@@ -20,6 +19,5 @@ pub fn one_answer()
     one_outcome();
     one_netlist();
     one_assignment();
-    read_is_raw();
-    unbroken_is_circuit();
+    stands_for_circuit();
 }

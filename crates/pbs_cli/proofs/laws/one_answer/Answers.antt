@@ -1,5 +1,3 @@
-use Rattle.std.proofs.Common.{subst, sym}
-use Rattle.net_core.specs.Circuits.{IsCircuit}
 use Rattle.pbs_cli.proofs.OneAnswer.{one_defined}
 use Rattle.pbs_cli.proofs.laws.one_answer.Goals as goal
 
@@ -12,6 +10,5 @@ returns c = one_defined (record {
   bad_net = c.one_answer.ensures.refusal;
   net_apart = c.one_answer.ensures.apart;
   row = c.one_assignment.ensures;
-  wired = λ text net stands. subst IsCircuit (sym stands.net_is)
-      (c.unbroken_is_circuit.ensures _ (c.read_is_raw.ensures text stands.phrase stands.is_read) stands.unbroken);
+  wired = c.stands_for_circuit.ensures;
 })
