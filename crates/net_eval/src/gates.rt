@@ -16,7 +16,7 @@ pub struct Begun<'a> {
 }
 
 /// The value of a wire.
-pub fn wire_value(wire: Wire, row: &Begun, gates: &[bool]) -> bool
+pub(crate) fn wire_value(wire: Wire, row: &Begun, gates: &[bool]) -> bool
     requires { IsThere 64 (length row.now.registers.now) (length gates.now) wire }
     ensures { result ≡ value (begun_row row.now gates.now) wire }
 {
@@ -84,7 +84,7 @@ fn gate_output(gate: &Gate, row: &Begun, gates: &[bool]) -> bool
 }
 
 /// The values of all gates, which make the row.
-pub fn settle(net: &[Gate], row: &Begun, gates: &mut [bool])
+pub(crate) fn settle(net: &[Gate], row: &Begun, gates: &mut [bool])
     requires ordered { IsOrdered 64 (length row.now.registers.now) net.now }
     requires long { length gates.old ≡ length net.now }
     ensures { IsRow net.now (begun_row row.now gates.new) }
