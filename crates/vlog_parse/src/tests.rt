@@ -1,7 +1,6 @@
-// A text with each form of item, and texts that are refused.
+// A text with each form of item.
 use super::*;
 use net_core::GateKind;
-use pbs_base::Span;
 use std::alloc::Global;
 use std::test::Fail;
 use vlog_text::{DeclKind, RawGate, RawName, RawNetlist, RawPin, Target};
@@ -144,60 +143,5 @@ fn parses_each_form(rt: HostRuntime) -> Result<(), Fail> {
     let lists = shown(alloc, &raw, TEXT)?;
     let wanted = in_one_line(alloc, LISTS)?;
     assert_eq!(rt; lists.as_slice(), wanted.as_slice());
-    Ok(())
-}
-
-// The rule and the span of the refusal, or nothing where the text is parsed.
-fn refusal(alloc: Global, text: &[u8]) -> Option<(u8, Span)> {
-    match parse_netlist(alloc, text) {
-        Err(ParseFail::Refused(found)) => Some((found.rule, found.span)),
-        _ => None,
-    }
-}
-
-fn at(rule: u8, start: u32, end: u32) -> Option<(u8, Span)> {
-    Some((rule, Span { start, end }))
-}
-
-#[test]
-fn refuses_at_the_first_place(rt: HostRuntime) -> Result<(), Fail> {
-    let alloc = rt.alloc();
-    assert_eq!(rt; refusal(alloc, b""), at(3, 0, 0));
-    assert_eq!(rt; refusal(alloc, b"module m(a);endmodule"), None);
-    assert_eq!(rt; refusal(alloc, b"module m(a);endmodule;"), at(3, 21, 22));
-    assert_eq!(rt; refusal(alloc, b"module m(a); // cut"), at(3, 19, 19));
-    assert_eq!(rt; refusal(alloc, b"module module /*"), at(2, 14, 16));
-    assert_eq!(rt; refusal(alloc, b"module m(a);not(a,b,c);"), at(3, 19, 20));
-    assert_eq!(rt;
-        refusal(alloc, b"module m(a);always@(posedge a"),
-        at(3, 28, 29)
-    );
-    assert_eq!(rt;
-        refusal(alloc, b"module m(a);assign a=a&&b;"),
-        at(3, 23, 24)
-    );
-    assert_eq!(rt;
-        refusal(alloc, b"module m(a);assign a=1'b2;"),
-        at(2, 21, 22)
-    );
-    Ok(())
-}
-
-// `module m(a);assign a=`, so many `~`, and `a;endmodule`.
-fn nested(alloc: Global, depth: usize) -> Result<Vec<u8>, Fail> {
-    let mut out = Vec::new(alloc);
-    put(&mut out, b"module m(a);assign a=")?;
-    for _ in 0..depth {
-        out.push(b'~')?;
-    }
-    put(&mut out, b"a;endmodule")?;
-    Ok(out)
-}
-
-#[test]
-fn nests_up_to_64(rt: HostRuntime) -> Result<(), Fail> {
-    let alloc = rt.alloc();
-    assert_eq!(rt; refusal(alloc, &nested(alloc, 64)?), None);
-    assert_eq!(rt; refusal(alloc, &nested(alloc, 65)?), at(3, 85, 86));
     Ok(())
 }
