@@ -1,69 +1,40 @@
 // Names that are declared, listed or used wrongly.
-use crate::texts::{Case, first_wrong};
+use crate::texts::{Case, first_wrong, first_wrong_items};
+use std::test::Fail;
 
-const NAMES: &[Case] = &[
+// Items behind the front.
+const USED_NAMES: &[Case] = &[
+    (b"buf (y, x);", 4, 58, 59),
+    (b"buf (x, rst); buf (y, rst);", 4, 55, 56),
+    (b"assign y = rst & ~x;", 4, 68, 69),
+    (b"assign x = rst; buf (y, rst);", 4, 57, 58),
+    (b"always @(posedge clk) q <= rst; buf (y, rst);", 4, 72, 73),
     (
-        b"module m (clk, rst, y); input clk, rst; output y; buf (y, x); endmodule",
-        4,
-        58,
-        59,
-    ),
-    (
-        b"module m (clk, rst, y); input clk, rst; output y; buf (x, rst); buf (y, rst); endmodule",
-        4,
-        55,
-        56,
-    ),
-    (
-        b"module m (clk, rst, y); input clk, rst; output y; assign y = rst & ~x; endmodule",
-        4,
-        68,
-        69,
-    ),
-    (
-        b"module m (clk, rst, y); input clk, rst; output y; assign x = rst; buf (y, rst); endmodule",
-        4,
-        57,
-        58,
-    ),
-    (
-        b"module m (clk, rst, y); input clk, rst; output y; always @(posedge clk) q <= rst; buf (y, rst); \
-      endmodule",
-        4,
-        72,
-        73,
-    ),
-    (
-        b"module m (clk, rst, y); input clk, rst; output y; reg q; always @(posedge clk) q <= x; buf (y, rst); \
-      endmodule",
+        b"reg q; always @(posedge clk) q <= x; buf (y, rst);",
         4,
         84,
         85,
     ),
+    (b"and g (x, rst); buf (y, rst);", 4, 57, 58),
+    (b"buf (y, m);", 4, 58, 59),
+    (b"buf g (y, rst); not (y, g);", 4, 74, 75),
+    (b"buf (y, Rst);", 4, 58, 61),
+    (b"wire w; wire w; buf (w, rst); buf (y, w);", 4, 63, 64),
+    (b"reg w; wire w; buf (w, rst); buf (y, w);", 4, 62, 63),
+    (b"input rst; buf (y, rst);", 4, 56, 59),
+    (b"output y; buf (y, rst);", 4, 57, 58),
     (
-        b"module m (clk, rst, y); input clk, rst; output y; and g (x, rst); buf (y, rst); endmodule",
+        b"wire w, v, w; buf (w, rst); buf (v, w); buf (y, v);",
         4,
-        57,
-        58,
-    ),
-    (
-        b"module m (clk, rst, y); input clk, rst; output y; buf (y, m); endmodule",
-        4,
-        58,
-        59,
-    ),
-    (
-        b"module m (clk, rst, y); input clk, rst; output y; buf g (y, rst); not (y, g); endmodule",
-        4,
-        74,
-        75,
-    ),
-    (
-        b"module m (clk, rst, y); input clk, rst; output y; buf (y, Rst); endmodule",
-        4,
-        58,
         61,
+        62,
     ),
+    (b"wire y; buf (y, rst);", 4, 20, 21),
+    (b"reg y; always @(posedge clk) y <= rst;", 4, 20, 21),
+];
+
+// Whole texts.
+const DECLARED_NAMES: &[Case] = &[
     (
         b"module m (clk, rst, y); input rst; output y; reg q; always @(posedge clk) q <= rst; buf (y, q); \
       endmodule",
@@ -82,30 +53,6 @@ const NAMES: &[Case] = &[
         4,
         10,
         13,
-    ),
-    (
-        b"module m (clk, rst, y); input clk, rst; output y; wire w; wire w; buf (w, rst); buf (y, w); endmodule",
-        4,
-        63,
-        64,
-    ),
-    (
-        b"module m (clk, rst, y); input clk, rst; output y; reg w; wire w; buf (w, rst); buf (y, w); endmodule",
-        4,
-        62,
-        63,
-    ),
-    (
-        b"module m (clk, rst, y); input clk, rst; output y; input rst; buf (y, rst); endmodule",
-        4,
-        56,
-        59,
-    ),
-    (
-        b"module m (clk, rst, y); input clk, rst; output y; output y; buf (y, rst); endmodule",
-        4,
-        57,
-        58,
     ),
     (
         b"module m (clk, rst, y); input clk, clk, rst; output y; buf (y, rst); endmodule",
@@ -132,13 +79,6 @@ const NAMES: &[Case] = &[
         51,
     ),
     (
-        b"module m (clk, rst, y); input clk, rst; output y; wire w, v, w; buf (w, rst); buf (v, w); buf (y, v); \
-      endmodule",
-        4,
-        61,
-        62,
-    ),
-    (
         b"module m (clk, rst, w, y); input clk, rst; output y; wire w; buf (w, rst); buf (y, rst); endmodule",
         4,
         20,
@@ -146,18 +86,6 @@ const NAMES: &[Case] = &[
     ),
     (
         b"module m (clk, rst, q); input clk, rst; reg q; always @(posedge clk) q <= rst; endmodule",
-        4,
-        20,
-        21,
-    ),
-    (
-        b"module m (clk, rst, y); input clk, rst; output y; wire y; buf (y, rst); endmodule",
-        4,
-        20,
-        21,
-    ),
-    (
-        b"module m (clk, rst, y); input clk, rst; output y; reg y; always @(posedge clk) y <= rst; endmodule",
         4,
         20,
         21,
@@ -183,6 +111,9 @@ const NAMES: &[Case] = &[
 ];
 
 #[test]
-fn wrong_names(rt: HostRuntime) {
-    assert_eq!(rt; first_wrong(rt.alloc(), NAMES), None);
+fn wrong_names(rt: HostRuntime) -> Result<(), Fail> {
+    let alloc = rt.alloc();
+    assert_eq!(rt; first_wrong_items(alloc, USED_NAMES)?, None);
+    assert_eq!(rt; first_wrong(alloc, DECLARED_NAMES), None);
+    Ok(())
 }

@@ -1,9 +1,7 @@
 // Texts at the limits.
-use crate::texts::{is_refused, joined, push_times, read, written};
+use crate::texts::{FRONT, is_refused, joined, push_times, read, written};
 use std::alloc::Global;
 use std::test::Fail;
-
-const FRONT: &[u8] = b"module m (clk, rst, y); input clk, rst; output y; ";
 
 // The front, a wire with a name of so many bytes, and its gate.
 fn long_name(alloc: Global, bytes: usize) -> Result<Vec<u8>, Fail> {
