@@ -1,8 +1,9 @@
 // Runs the controller of a specification on a trace.
-ghost use Rattle.std.specs.Prelude.{◌≡◌, ◌≤◌};
+ghost use Rattle.std.specs.Prelude.{◌≡◌, ◌≢◌, ◌≤◌, Err};
 ghost use Rattle.std.specs.Option.{ForSome};
 ghost use Rattle.pbs_base.specs.Outside.{GoesOn, content_of};
 ghost use Rattle.pbs_base.specs.declared.refusal.Refusal.{Refusal as RefusalValue};
+ghost use Rattle.net_trace.specs.declared.fail.RunFail.TheVariants as fails;
 ghost use Rattle.net_trace.specs.Endings.{RunEnds};
 ghost use Rattle.net_trace.specs.Taken.{TakesAtMost};
 ghost use Rattle.pbs_engine.specs.Accepted.{IsNotRun};
@@ -34,6 +35,8 @@ pub fn trace<S: Shelf, K: Sink>(
     ensures few { ForSome (S.state shelf.old).files (λ files. TakesAtMost 67108865 (content_of files name.now)
         ((S.state shelf.old).slots 1) ((S.state shelf.new).slots 1)) }
     ensures untouched { (r : RefusalValue) → IsNotRun text.now r → (shelf.new ≡ shelf.old) × (sink.new ≡ sink.old) }
+    ensures no_fault { (r : RefusalValue) → IsNotRun text.now r
+        → (result ≢ Err fails.ReadFault) × (result ≢ Err fails.WriteFault) }
 {
     one_run();
     match read_back(alloc, text) {

@@ -14,6 +14,10 @@ pub returns-in-Ok-clause-untouched : goal.returns-in-Ok-clause-untouched
 returns-in-Ok-clause-untouched g c = λ r refused.
     let back = c.in-Ok.ensures in absurd (c.one_run.ensures.apart c.args.text.now back.spec r back.run refused)
 
+pub returns-in-Ok-clause-no_fault : goal.returns-in-Ok-clause-no_fault
+returns-in-Ok-clause-no_fault g c = λ r refused.
+    let back = c.in-Ok.ensures in absurd (c.one_run.ensures.apart c.args.text.now back.spec r back.run refused)
+
 pub returns-in-Err-Refused-clause-ends : goal.returns-in-Err-Refused-clause-ends
 returns-in-Err-Refused-clause-ends g c =
     let back : ReadsBack c.args.text.now (Err (engine.Refused c.in-Err-Refused.refusal)) =
