@@ -40,7 +40,11 @@ fn add_input(
 }
 
 /// The words of the inputs other than `clk` and `rst`.
-pub(crate) fn input_names(alloc: Global, kinds: &KindTable, ports: &[RawName]) -> Result<Names, Memory>
+pub(crate) fn input_names(
+    alloc: Global,
+    kinds: &KindTable,
+    ports: &[RawName],
+) -> Result<Names, Memory>
     requires { repeated [] ports.now ≡ [] }
     ensures { IfOk result (λ names. names ≡ map (λ (n : Named). n.word)
         (filter (λ (n : Named). is_plain (kinds_in kinds.now n.word) n.word) ports.now)) }

@@ -53,7 +53,11 @@ fn note_undriven(
 }
 
 /// Where rule 5 is broken first.
-pub(crate) fn check_drivers(alloc: Global, raw: &RawNetlist, kinds: &KindTable) -> Result<Driving, Memory>
+pub(crate) fn check_drivers(
+    alloc: Global,
+    raw: &RawNetlist,
+    kinds: &KindTable,
+) -> Result<Driving, Memory>
     requires { KnowsKinds raw.now.decls kinds.now }
     ensures gates { IfOk result (λ d. IsFirsts (map (λ (g : GateItem). target_name g.target) raw.now.gates) d.gates) }
     ensures regs { IfOk result (λ d. IsFirsts (map (λ (r : RegItem). Some r.target) raw.now.regs) d.regs) }

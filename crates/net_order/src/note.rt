@@ -37,7 +37,12 @@ fn note(found: Option<Refusal>, rule: u8, span: Span) -> Option<Refusal>
 }
 
 /// What was found, or a breach at this name if that is earlier.
-pub(crate) fn note_if(is_broken: bool, name: &RawName, rule: u8, found: Option<Refusal>) -> Option<Refusal>
+pub(crate) fn note_if(
+    is_broken: bool,
+    name: &RawName,
+    rule: u8,
+    found: Option<Refusal>,
+) -> Option<Refusal>
     ensures { result ≡ earliest found (refusals rule (when is_broken name.now)) }
 {
     if is_broken {

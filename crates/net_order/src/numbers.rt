@@ -35,7 +35,11 @@ fn number_if(
 }
 
 /// The number of each input other than `clk` and `rst`.
-pub(crate) fn number_inputs(alloc: Global, kinds: &KindTable, ports: &[RawName]) -> Result<Firsts, Memory>
+pub(crate) fn number_inputs(
+    alloc: Global,
+    kinds: &KindTable,
+    ports: &[RawName],
+) -> Result<Firsts, Memory>
     ensures { IfOk result (λ firsts. IsFirsts
         (map (λ (n : Named). Some n) (filter_map (plain_name (kinds_in kinds.now)) ports.now)) firsts) }
 {
