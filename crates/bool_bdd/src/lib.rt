@@ -7,6 +7,3 @@ mod store;
 
 pub use node::Node;
 pub use store::Store;
-
-#[cfg(test)]
-mod tests;

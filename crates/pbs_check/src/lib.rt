@@ -15,8 +15,6 @@ mod rules;
 mod searching;
 mod settling;
 mod tables;
-#[cfg(test)]
-mod tests;
 mod uses;
 mod walks;
 

@@ -8,8 +8,6 @@ mod piece;
 mod stack;
 mod state;
 mod step;
-#[cfg(test)]
-mod tests;
 mod tokens;
 mod units;
 mod words;

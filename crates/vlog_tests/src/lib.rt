@@ -6,6 +6,8 @@ mod cycles;
 #[cfg(test)]
 mod drivers;
 #[cfg(test)]
+mod forms;
+#[cfg(test)]
 mod grammar;
 #[cfg(test)]
 mod handshake;
@@ -25,3 +27,5 @@ mod sizes;
 mod texts;
 #[cfg(test)]
 mod tokens;
+#[cfg(test)]
+mod written;

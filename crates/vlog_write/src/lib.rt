@@ -3,8 +3,6 @@
 
 mod lines;
 mod names;
-#[cfg(test)]
-mod tests;
 mod text;
 
 pub use text::write_netlist;

@@ -1,7 +1,7 @@
 // One specification that is accepted and one that is refused, with ample memory.
-use crate::{Check, check_spec};
 use pbs_ast::{Decls, Expr, Kind, Levels, Prod, Prods, Spec};
 use pbs_base::{Memory, Refusal, Span, Subject, Word};
+use pbs_check::{Check, check_spec};
 use std::alloc::Global;
 
 fn spec_of(alloc: Global, prods: Prods, main: Kind) -> Spec {

@@ -1,4 +1,4 @@
-use crate::Store;
+use bool_bdd::Store;
 use bool_terms::Term;
 use std::test::Fail;
 

@@ -1,11 +1,11 @@
 // The text of a small netlist, written out by hand.
 ghost use Rattle.std.specs.Prelude.{◌≤◌, length};
 
-use super::*;
 use net_core::{Builder, Netlist, Wire};
 use pbs_base::{Memory, Names, Word};
 use std::alloc::Global;
 use std::test::Fail;
+use vlog_write::write_netlist;
 
 const WRITTEN: &[u8] = b"// kept
 module pbs (clk, rst, a_go);
