@@ -1,6 +1,6 @@
 -- The inputs and actions that a text declares have words for names.
-use Rattle.std.proofs.Common.{◌≡◌, ℕ, zero, suc, ◌+◌, ◌<◌, List, [], ◌∷◌, ◌++◌, Bool, true, refl, sym}
-use Rattle.std.proofs.Common.{subst, ◌∙◌, arith, length-append, nat_eq}
+use Rattle.std.proofs.Common.{◌≡◌, ℕ, zero, suc, ◌+◌, ◌<◌, List, [], ◌∷◌, ◌++◌, Bool, true, refl, sym, subst, ◌∙◌}
+use Rattle.std.proofs.Common.{arith, length-append, nat_eq, ◌≤◌}
 use Rattle.std.specs.Prelude.{codes, decimal}
 use Rattle.std.proofs.lemmas.Fmt.{decimal_digit}
 use Rattle.std.proofs.lemmas.List.Folds.{list_all-append}
@@ -8,20 +8,21 @@ use Rattle.std.proofs.lemmas.Bool.Decides.{nat_tests}
 use Rattle.pbs_ast.specs.declared.syntax.Decl.{Decl}
 use Rattle.pbs_ast.specs.declared.syntax.Spec.{Spec}
 use Rattle.pbs_read.specs.declared.token.Token.{Token}
-use Rattle.pbs_read.specs.declared.token.TokenKind.TheVariants as kind
 use Rattle.pbs_read.specs.Grammar.{token, OneBit, TwoBits, MoreBits, InputPhrase, OneWire, Bus, InputsPhrase}
-use Rattle.pbs_read.specs.Grammar.{OneInput, MoreInputs, NamesPhrase, OneName, MoreNames}
-use Rattle.pbs_read.specs.Grammar.{DeclPhrase, InputDecl, ActionDecl, LevelDecl, ProdDecl, DeclsPhrase, NoDecls}
-use Rattle.pbs_read.specs.Grammar.{MoreDecls, input_tokens, inputs_tokens, names_tokens, decl_tokens}
-use Rattle.pbs_read.specs.Grammar.{decls_tokens, head_tokens, expr_tokens, text_tokens, TextPhrase, OfVersion}
-use Rattle.pbs_read.specs.Trees.{declared, input_of, inputs_of, names_of, Declared, with_decl, declared_by, text_spec}
+use Rattle.pbs_read.specs.Grammar.{OneInput, MoreInputs, NamesPhrase, OneName, MoreNames, DeclPhrase, InputDecl}
+use Rattle.pbs_read.specs.Grammar.{ActionDecl, LevelDecl, ProdDecl, DeclsPhrase, NoDecls, MoreDecls, input_tokens}
+use Rattle.pbs_read.specs.Grammar.{inputs_tokens, names_tokens, decl_tokens, decls_tokens, head_tokens, expr_tokens}
+use Rattle.pbs_read.specs.Grammar.{text_tokens, TextPhrase, OfVersion}
+use Rattle.pbs_read.specs.Trees.{word_at, declared, input_of, inputs_of, names_of, Declared, with_decl, declared_by}
+use Rattle.pbs_read.specs.Trees.{text_spec}
 use Rattle.pbs_read.specs.Lexing.{is_word_byte}
 use Rattle.pbs_read.specs.Answers.{StandsFor}
-use Rattle.pbs_rules.specs.Naming as naming
 use Rattle.pbs_rules.specs.Naming.{bit_name, bit_names, input_names, action_names}
 use Rattle.pbs_emit.specs.NameWords.{begins_word, IsWord, AreWords}
-use Rattle.pbs_emit.proofs.Lists.{Each, each-append, each_at, pick}
-use Rattle.pbs_emit.proofs.Found.{AreFound, found_parts, tokens_found}
+use Rattle.pbs_read.proofs.Found.{pick, word_byte, FoundAs, AreFound, found_parts, tokens_found}
+use Rattle.pbs_emit.proofs.Lists.{Each, each-append, each_at}
+use Rattle.pbs_read.specs.declared.token.TokenKind.TheVariants as kind
+use Rattle.pbs_rules.specs.Naming as naming
 
 -- ---- declarations
 
@@ -31,12 +32,20 @@ InputIs d = IsWord 64 d.name × (d.width < 9)
 abbrev ActionIs : Decl → Type 0
 ActionIs d = IsWord 64 d.name
 
+named : (w : List ℕ) → FoundAs w kind.Name → IsWord 64 w
+named [] h = absurd h
+named (b ∷ w) h = record {
+  begins = h.0;
+  bytes = rw (word_byte b h.0) h.1;
+  short = let few = h.2 in omega arith;
+}
+
 input_found : (two : Bool) (bytes : List ℕ) (i : InputPhrase two) → AreFound bytes (input_tokens i)
     → InputIs (input_of bytes i)
-input_found two bytes (OneWire at) h = (h.0, omega arith)
-input_found two bytes (Bus second at c OneBit to) h = (h.0, omega arith)
-input_found two bytes (Bus second at c TwoBits to) h = (h.0, omega arith)
-input_found two bytes (Bus second at c (MoreBits n) to) h = (h.0, h.1.1.0)
+input_found two bytes (OneWire at) h = (named (word_at bytes at) h.0, omega arith)
+input_found two bytes (Bus second at c OneBit to) h = (named (word_at bytes at) h.0, omega arith)
+input_found two bytes (Bus second at c TwoBits to) h = (named (word_at bytes at) h.0, omega arith)
+input_found two bytes (Bus second at c (MoreBits n) to) h = (named (word_at bytes at) h.0, h.1.1.0.1)
 
 inputs_found : (two : Bool) (bytes : List ℕ) (is : InputsPhrase two) → AreFound bytes (inputs_tokens is)
     → Each InputIs (inputs_of bytes is)
@@ -47,11 +56,11 @@ inputs_found two bytes (MoreInputs is at i) h =
     (input_found two bytes i parts.1.1, tt)
 
 names_found : (bytes : List ℕ) (ns : NamesPhrase) → AreFound bytes (names_tokens ns) → Each ActionIs (names_of bytes ns)
-names_found bytes (OneName at) h = (h.0, tt)
+names_found bytes (OneName at) h = (named (word_at bytes at) h.0, tt)
 names_found bytes (MoreNames ns c at) h =
     let parts = found_parts bytes (names_tokens ns) (token kind.Comma c ∷ token kind.Name at ∷ []) h in
     each-append ActionIs (names_of bytes ns) (declared bytes at 0 ∷ []) (names_found bytes ns parts.0)
-    (parts.1.1.0, tt)
+    (named (word_at bytes at) parts.1.1.0, tt)
 
 record AreDeclared (d : Declared) : Type 0 where
   inputs : Each InputIs d.inputs

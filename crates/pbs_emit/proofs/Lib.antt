@@ -1,5 +1,4 @@
 mod Lists
-mod Found
 mod Declared
 mod Counted
 mod Ports

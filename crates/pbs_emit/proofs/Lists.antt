@@ -1,9 +1,10 @@
 -- Lists: what holds of each element, and where an element of two lists stands.
-use Rattle.std.proofs.Common.{◌≡◌, ℕ, zero, suc, ◌+◌, List, [], ◌∷◌, ◌++◌, length, map, Some, inl, inr, ◌⊎◌, Bool, true}
-use Rattle.std.proofs.Common.{false, refl, subst, arith}
-use Rattle.std.specs.Prelude.{slice_get, ◌&&◌, if◌then◌else◌}
+use Rattle.std.proofs.Common.{◌≡◌, ℕ, zero, suc, ◌+◌, List, [], ◌∷◌, ◌++◌, length, map, Some, inl, inr, ◌⊎◌, Bool}
+use Rattle.std.proofs.Common.{true, refl, subst, arith}
+use Rattle.std.specs.Prelude.{slice_get}
 use Rattle.std.specs.List.{list_all}
 use Rattle.std.proofs.lemmas.Option.{same_Some}
+use Rattle.pbs_read.proofs.Found.{both}
 
 abbrev pub Each : {A : Type 0} → (A → Type 0) → List A → Type 0
 Each P [] = Unit {0}
@@ -36,20 +37,6 @@ get-map f (x ∷ xs) zero y e = (x, refl, same_Some (f x) y e)
 get-map f (x ∷ xs) (suc n) y e = get-map f xs n y e
 
 -- ---- tests
-
-pub both : (a b : Bool) → (a && b) ≡ true → (a ≡ true) × (b ≡ true)
-both true true e = (refl, refl)
-both true false e = absurd cc
-both false b e = absurd cc
-
-pub chosen : {A : Type 0} (S : A → Type 0) (c : Bool) (x y : A) → (c ≡ true → S x) → (c ≡ false → S y)
-    → S (if c then x else y)
-chosen S true x y f g = f refl
-chosen S false x y f g = g refl
-
-pub pick : {A : Type 0} (S : A → Type 0) (c : Bool) (x y : A) → S x → S y → S (if c then x else y)
-pick S true x y f g = f
-pick S false x y f g = g
 
 pub all_so : (p q : ℕ → Bool) (w : List ℕ) → ((b : ℕ) → p b ≡ true → q b ≡ true) → list_all p w ≡ true
     → list_all q w ≡ true

@@ -9,11 +9,10 @@ use Rattle.pbs_read.specs.declared.token.Token.{Token}
 use Rattle.pbs_read.specs.Bare.{bare}
 use Rattle.pbs_read.specs.Trees.{text_spec}
 use Rattle.pbs_read.specs.Lexing.{tokens}
-use Rattle.pbs_read.specs.Reading.{refusal}
-use Rattle.pbs_read.specs.Refusals.{IsRefused, Says}
-use Rattle.pbs_read.specs.TextDescent.{ReadsText, StopsText}
+use Rattle.pbs_read.specs.Refusals.{refusal, IsRefused, Says}
+use Rattle.pbs_read.specs.descent.TextDescent.{StopsLexing, ReadsText, StopsText}
 use Rattle.pbs_read.specs.Answers.{IsShort, StandsFor, IsRefusedBy, ByLength, ByToken, ByGrammar, Answers, Refuses}
-use Rattle.pbs_read.specs.Answers.{IsThe, StopsLexing}
+use Rattle.pbs_read.specs.Answers.{IsThe}
 use Rattle.pbs_read.proofs.Phrases.{one_phrase}
 use Rattle.pbs_read.proofs.Exact.{reading_says, reading_is}
 

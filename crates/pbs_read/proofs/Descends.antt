@@ -7,8 +7,8 @@ use Rattle.pbs_read.specs.declared.token.TokenKind.TheVariants.{Zero, One, Two, 
 use Rattle.pbs_read.specs.Grammar.{token, Numeral, ZeroNumeral, OneNumeral, TwoNumeral, DigitNumeral, LongNumeral}
 use Rattle.pbs_read.specs.Grammar.{numeral_kind}
 use Rattle.pbs_read.specs.Trees.{numeral_value}
-use Rattle.pbs_read.specs.Steps.{numeral_of}
-use Rattle.pbs_read.specs.Descent.{TakesNumeral}
+use Rattle.pbs_read.specs.descent.Steps.{numeral_of}
+use Rattle.pbs_read.specs.descent.Descent.{TakesNumeral}
 
 record IsNumeral (k : TokenKind) (value : ℕ) : Type 0 where
   numeral : Numeral

@@ -1,8 +1,7 @@
 -- Reading answers exactly what the grammar says.
 use Rattle.std.proofs.Common.{◌≡◌, ℕ, ◌≤◌, List, [], ◌∷◌, ◌++◌, ◌⊎◌, inl, inr, Bool, cond, Option, Some, None, Result}
 use Rattle.std.proofs.Common.{Ok, Err, refl, sym, ap, subst, ◌∙◌, append_assoc, append-nil, false, true, arith}
-use Rattle.std.specs.Prelude.{option_and_then, ⊤}
-use Rattle.std.specs.Prelude.{IsTrue}
+use Rattle.std.specs.Prelude.{option_and_then, ⊤, IsTrue}
 use Rattle.std.proofs.lemmas.Bool.{false≢true}
 use Rattle.std.proofs.lemmas.Bool.Decides.{nat_tests}
 use Rattle.pbs_base.specs.declared.refusal.Refusal.{Refusal}
@@ -11,18 +10,19 @@ use Rattle.pbs_read.specs.declared.token.Token.{Token}
 use Rattle.pbs_read.specs.declared.token.TokenKind.{TokenKind}
 use Rattle.pbs_read.specs.declared.token.TokenKind.TheVariants.{OpenRound, Tilde}
 use Rattle.pbs_read.specs.Grammar.{TextPhrase, IsText, Begins}
-use Rattle.pbs_read.specs.Places.{ExprHole, OfGroup, OfProd, OfMain, SeqHole, FirstSeq, NextSeq, ItemHole, FirstItem}
-use Rattle.pbs_read.specs.Places.{NextItem, GroupHole, AsPrim, OfHold, OfBody, OfTrap, OfAfter, UnitHole, Place, Start}
-use Rattle.pbs_read.specs.Places.{WantsItem, WantsGroup, InGroup, WantsUnit, Whole, before_item, before_group}
-use Rattle.pbs_read.specs.Places.{before_unit, before}
-use Rattle.pbs_read.specs.Steps.{step, walk}
-use Rattle.pbs_read.specs.Reading.{expr_nesting, seq_nesting, item_nesting, group_nesting, unit_nesting, refusal}
-use Rattle.pbs_read.specs.Reading.{is_too_deep, stepped, bind, ended, read}
-use Rattle.pbs_read.specs.Refusals.{CannotStand, opens, Opening, ForItem, ForGroup, ForUnit, before_opening, nesting}
-use Rattle.pbs_read.specs.Refusals.{IsTooDeep, NoneStops, IsRefused, AtToken, AtDepth, AtEnd, IsRead, Says}
+use Rattle.pbs_read.specs.Holes.{ExprHole, OfGroup, OfProd, OfMain, SeqHole, FirstSeq, NextSeq, ItemHole, FirstItem}
+use Rattle.pbs_read.specs.Holes.{NextItem, GroupHole, AsPrim, OfHold, OfBody, OfTrap, OfAfter, UnitHole, before_item}
+use Rattle.pbs_read.specs.Holes.{before_group, before_unit, expr_nesting, seq_nesting, item_nesting, group_nesting}
+use Rattle.pbs_read.specs.Holes.{unit_nesting}
+use Rattle.pbs_read.specs.descent.Places.{Place, Start, WantsItem, WantsGroup, InGroup, WantsUnit, Whole, before}
+use Rattle.pbs_read.specs.descent.Steps.{step, walk}
+use Rattle.pbs_read.specs.Refusals.{refusal, CannotStand, opens, Opening, ForItem, ForGroup, ForUnit, before_opening}
+use Rattle.pbs_read.specs.Refusals.{nesting, IsTooDeep, NoneStops, IsRefused, AtToken, AtDepth, AtEnd, IsRead, Says}
+use Rattle.pbs_read.specs.descent.Reading.{is_too_deep, stepped, bind, ended, read}
 use Rattle.pbs_read.proofs.Walks.{at_some, any, walk-before, walk-append}
-use Rattle.pbs_read.proofs.Phrases.{at_expr, at_seq, at_item, at_group, walk-item_hole, walk-group_hole, walk-unit_hole}
-use Rattle.pbs_read.proofs.Phrases.{walk-text, passed_begins, begins_passed, whole_is_text, one_phrase}
+use Rattle.pbs_read.proofs.Phrases.{at_expr, at_seq, at_item, at_group, walk-item_hole, walk-group_hole}
+use Rattle.pbs_read.proofs.Phrases.{walk-unit_hole, walk-text, passed_begins, begins_passed, whole_is_text}
+use Rattle.pbs_read.proofs.Phrases.{one_phrase}
 
 -- two splits of one list
 data Splits (a : List Token) (t : Token) (b : List Token) (a' : List Token) (t' : Token)

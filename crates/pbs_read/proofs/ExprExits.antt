@@ -1,11 +1,10 @@
 -- Each exit of the descent over expressions, over plain variables.
-use Rattle.std.proofs.Common.{◌≡◌, ◌≢◌, ℕ, ◌+◌, ◌<◌, ◌≤◌, List, [], ◌∷◌, ◌++◌, length, map, Bool, None, Err, refl, sym}
-use Rattle.std.proofs.Common.{ap, ap₂, ◌∙◌, false, true, arith, length-append}
+use Rattle.std.proofs.Common.{◌≡◌, ◌≢◌, ℕ, ◌+◌, ◌<◌, ◌≤◌, List, [], ◌∷◌, ◌++◌, length, map, Bool, None, Err, refl}
+use Rattle.std.proofs.Common.{sym, ap, ap₂, ◌∙◌, false, true, arith, length-append}
 use Rattle.std.specs.Prelude.{option_map}
 use Rattle.std.proofs.lemmas.Bool.{false≢true}
 use Rattle.pbs_ast.specs.declared.syntax.SpecTerm.{SpecTerm}
 use Rattle.pbs_ast.specs.declared.syntax.Expr.{Expr}
-use Rattle.pbs_ast.specs.declared.syntax.Kind as kind
 use Rattle.pbs_ast.specs.declared.syntax.Kind.{Kind, Row_of-Expr, end_of-Expr, more_of-Expr, items-the_row-Expr}
 use Rattle.pbs_ast.specs.declared.syntax.Kind.{items_hidden-the_row-Expr-0}
 use Rattle.pbs_ast.specs.declared.syntax.Kind.TheBlock.{hidden-the_row-Expr-0}
@@ -15,32 +14,34 @@ use Rattle.pbs_read.specs.Bare.{expr, bare_kind, bare_exprs, bare_expr}
 use Rattle.pbs_read.specs.Trees.{word_at, joined, term_tree, group_extent, prim_extent, seq_node, choice_node}
 use Rattle.pbs_read.specs.Trees.{operator_node, repeat_node, hold_node, scope_node, expr_items, seq_items, item_tree}
 use Rattle.pbs_read.specs.Trees.{prim_tree, group_tree, seq_tree}
-use Rattle.pbs_read.specs.Reading.{item_nesting, group_nesting, stepped, move, bind, ended, read}
-use Rattle.pbs_read.specs.Descent.{BeginsWith, NoFront, front_refusal, Stops, behind_term, behind_seq, behind_expr}
-use Rattle.pbs_read.specs.Descent.{wants_expr, ReadsTerm, ReadsGroup, StopsGroup, ReadsPrim, ReadsItem, StopsItem}
-use Rattle.pbs_read.specs.Descent.{ReadsSeq, ReadsExpr, StopsExpr, SeqSoFar, ExprSoFar, TakesNumeral, ReadsBounds}
-use Rattle.pbs_read.specs.Descent.{StopsBounds, ReadsGuard, after_hold, NoOperator}
-use Rattle.pbs_base.specs.declared.refusal.Span.{Span}
-use Rattle.pbs_read.specs.declared.token.Token.{Token}
-use Rattle.pbs_read.specs.declared.token.Operator.{Operator}
-use Rattle.pbs_read.specs.declared.token.Operator.TheVariants.{StarOp, PlusOp, OptOp}
-use Rattle.pbs_read.specs.declared.token.TokenKind.{TokenKind}
-use Rattle.pbs_read.specs.declared.token.TokenKind.TheVariants.{Name, HoldWord, TryWord, AbortWord, ThenWord, Semicolon}
-use Rattle.pbs_read.specs.declared.token.TokenKind.TheVariants.{Comma, OpenCurly, CloseCurly, OpenRound, CloseRound}
-use Rattle.pbs_read.specs.declared.token.TokenKind.TheVariants.{OpenSquare, CloseSquare, Bar, Star, Plus, Question}
-use Rattle.pbs_read.specs.declared.token.TokenKind.TheVariants.{Colon}
+use Rattle.pbs_read.specs.Holes.{item_nesting, group_nesting, ExprHole, OfGroup, SeqHole, FirstSeq, NextSeq, ItemHole}
+use Rattle.pbs_read.specs.Holes.{FirstItem, NextItem, GroupHole, AsPrim, OfHold, OfBody, OfTrap, OfAfter, OfTerminal}
+use Rattle.pbs_read.specs.Holes.{OfGuard}
+use Rattle.pbs_read.specs.descent.Reading.{stepped, move, bind, ended, read}
+use Rattle.pbs_read.specs.descent.Descent.{BeginsWith, NoFront, front_refusal, Stops, behind_term, behind_seq}
+use Rattle.pbs_read.specs.descent.Descent.{behind_expr, wants_expr, ReadsTerm, ReadsGroup, StopsGroup, ReadsPrim}
+use Rattle.pbs_read.specs.descent.Descent.{ReadsItem, StopsItem, ReadsSeq, ReadsExpr, StopsExpr, SeqSoFar, ExprSoFar}
+use Rattle.pbs_read.specs.descent.Descent.{TakesNumeral, ReadsBounds, StopsBounds, ReadsGuard, after_hold, NoOperator}
 use Rattle.pbs_read.specs.Grammar.{token, Second, Numeral, ZeroNumeral, OneNumeral, TwoNumeral, DigitNumeral}
 use Rattle.pbs_read.specs.Grammar.{LongNumeral, numeral_kind, operator_kind, TermPhrase, OneAll, MoreAlls, ExprPhrase}
 use Rattle.pbs_read.specs.Grammar.{OneSeq, MoreSeqs, SeqPhrase, OneItem, MoreItems, ItemPhrase, Plain, Repeated}
 use Rattle.pbs_read.specs.Grammar.{Counted, PrimPhrase, Terminal, Action, Call, Grouped, Hold, Try, GroupPhrase}
 use Rattle.pbs_read.specs.Grammar.{EmptyGroup, FullGroup}
-use Rattle.pbs_read.specs.Places.{ExprHole, OfGroup, SeqHole, FirstSeq, NextSeq, ItemHole, FirstItem, NextItem}
-use Rattle.pbs_read.specs.Places.{GroupHole, AsPrim, OfHold, OfBody, OfTrap, OfAfter, OfTerminal, OfGuard, WantsItem}
-use Rattle.pbs_read.specs.Places.{WantsGroup, InGroup, AfterGuard, AfterTrap, AfterPrim, WantsLeast, AfterLeast}
-use Rattle.pbs_read.specs.Places.{WantsMost, AfterMost, AfterItem}
-use Rattle.pbs_read.specs.Steps.{second, numeral_of, with_group, with_item, seq_hole, with_seq, expr_hole, close_group}
-use Rattle.pbs_read.specs.Steps.{close_expr, step}
+use Rattle.pbs_read.specs.descent.Places.{WantsItem, WantsGroup, InGroup, AfterGuard, AfterTrap, AfterPrim}
+use Rattle.pbs_read.specs.descent.Places.{WantsLeast, AfterLeast, WantsMost, AfterMost, AfterItem}
+use Rattle.pbs_read.specs.descent.Steps.{second, numeral_of, with_group, with_item, seq_hole, with_seq, expr_hole}
+use Rattle.pbs_read.specs.descent.Steps.{close_group, close_expr, step}
+use Rattle.pbs_base.specs.declared.refusal.Span.{Span}
+use Rattle.pbs_read.specs.declared.token.Token.{Token}
+use Rattle.pbs_read.specs.declared.token.Operator.{Operator}
+use Rattle.pbs_read.specs.declared.token.Operator.TheVariants.{StarOp, PlusOp, OptOp}
+use Rattle.pbs_read.specs.declared.token.TokenKind.{TokenKind}
+use Rattle.pbs_read.specs.declared.token.TokenKind.TheVariants.{Name, HoldWord, TryWord, AbortWord, ThenWord}
+use Rattle.pbs_read.specs.declared.token.TokenKind.TheVariants.{Semicolon, Comma, OpenCurly, CloseCurly, OpenRound}
+use Rattle.pbs_read.specs.declared.token.TokenKind.TheVariants.{CloseRound, OpenSquare, CloseSquare, Bar, Star, Plus}
+use Rattle.pbs_read.specs.declared.token.TokenKind.TheVariants.{Question, Colon}
 use Rattle.pbs_read.proofs.TermExits.{shallow, none_second, one_or-many, map-more, two_now}
+use Rattle.pbs_ast.specs.declared.syntax.Kind as kind
 
 -- ---- group
 

@@ -12,17 +12,18 @@ use Rattle.pbs_read.specs.Grammar.{token, Second, Numeral, OneNumeral, UnitPhras
 use Rattle.pbs_read.specs.Grammar.{Compared, AllPhrase, OneUnit, MoreUnits, TermPhrase, OneAll, MoreAlls, ItemPhrase}
 use Rattle.pbs_read.specs.Grammar.{Plain, Counted, PrimPhrase, Action, Call, Grouped, Hold, Try, GroupPhrase}
 use Rattle.pbs_read.specs.Grammar.{EmptyGroup, SetsPhrase, TextPhrase}
-use Rattle.pbs_read.specs.Places.{Front, OfGroup, OfProd, OfMain, FirstSeq, NextSeq, ItemHole, FirstItem, NextItem}
-use Rattle.pbs_read.specs.Places.{GroupHole, AsPrim, OfHold, OfBody, OfTrap, OfAfter, OfTerminal, OfGuard, InRound}
-use Rattle.pbs_read.specs.Places.{AllHole, FirstAll, NextAll, UnitHole, UnderNot, FirstUnit, NextUnit, NameHole}
-use Rattle.pbs_read.specs.Places.{FirstName, NextName, LevelFront, Place, Start, AfterSpec, AfterVersion, InDecls}
-use Rattle.pbs_read.specs.Places.{WantsInput, AfterInputName, WantsWidth, AfterInput, WantsName, AfterName, AfterLevel}
-use Rattle.pbs_read.specs.Places.{AfterLevelName, AfterLevelEquals, AfterLevelBit, InLevel, AfterSetName, AfterSetColon}
-use Rattle.pbs_read.specs.Places.{AfterSetBit, AfterProd, AfterProdName, AfterMain, WantsItem, WantsGroup, InGroup}
-use Rattle.pbs_read.specs.Places.{InCurly, AfterActionName, AfterHold, AfterGuard, AfterBody, AfterTrap, AfterPrim}
-use Rattle.pbs_read.specs.Places.{WantsLeast, AfterLeast, WantsMost, AfterMost, AfterItem, WantsUnit, AfterUnitName}
-use Rattle.pbs_read.specs.Places.{WantsNumber, AfterUnit, Whole}
-use Rattle.pbs_read.specs.Steps.{unit_hole, unit_all, with_group, with_name, end_unit, end_item, step, walk}
+use Rattle.pbs_read.specs.Holes.{Front, OfGroup, OfProd, OfMain, FirstSeq, NextSeq, ItemHole, FirstItem, NextItem}
+use Rattle.pbs_read.specs.Holes.{GroupHole, AsPrim, OfHold, OfBody, OfTrap, OfAfter, OfTerminal, OfGuard, InRound}
+use Rattle.pbs_read.specs.Holes.{AllHole, FirstAll, NextAll, UnitHole, UnderNot, FirstUnit, NextUnit}
+use Rattle.pbs_read.specs.descent.Places.{NameHole, FirstName, NextName, LevelFront, Place, Start, AfterSpec}
+use Rattle.pbs_read.specs.descent.Places.{AfterVersion, InDecls, WantsInput, AfterInputName, WantsWidth, AfterInput}
+use Rattle.pbs_read.specs.descent.Places.{WantsName, AfterName, AfterLevel, AfterLevelName, AfterLevelEquals}
+use Rattle.pbs_read.specs.descent.Places.{AfterLevelBit, InLevel, AfterSetName, AfterSetColon, AfterSetBit, AfterProd}
+use Rattle.pbs_read.specs.descent.Places.{AfterProdName, AfterMain, WantsItem, WantsGroup, InGroup, InCurly}
+use Rattle.pbs_read.specs.descent.Places.{AfterActionName, AfterHold, AfterGuard, AfterBody, AfterTrap, AfterPrim}
+use Rattle.pbs_read.specs.descent.Places.{WantsLeast, AfterLeast, WantsMost, AfterMost, AfterItem, WantsUnit}
+use Rattle.pbs_read.specs.descent.Places.{AfterUnitName, WantsNumber, AfterUnit, Whole}
+use Rattle.pbs_read.specs.descent.Steps.{unit_hole, unit_all, with_group, with_name, end_unit, end_item, step, walk}
 
 -- the place can be completed to a whole text
 abbrev pub Finishes : Place → Type 0

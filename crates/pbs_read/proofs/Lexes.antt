@@ -6,7 +6,7 @@ use Rattle.pbs_read.specs.declared.token.Token.{Token}
 use Rattle.pbs_read.specs.declared.token.TokenKind.{TokenKind}
 use Rattle.pbs_read.specs.declared.piece.Piece.TheVariants.{Gap, Whole, Fault}
 use Rattle.pbs_read.specs.Grammar.{token}
-use Rattle.pbs_read.specs.Lexing.{first_piece, lex, with_token, with_piece, with_front, IsWithin}
+use Rattle.pbs_read.specs.Lexing.{first_piece, lex, with_token, with_piece, IsWithin}
 
 -- passing over bytes
 lex-skip : (n at : ℕ) (bs : List ℕ) → n ≤ length bs → lex n at bs ≡ lex 0 (at + n) (drop n bs)
@@ -33,6 +33,11 @@ unfolding lex
 lex-end skip at = refl
 
 -- ---- one turn of the loop
+
+-- tokens that were found before
+abbrev pub with_front : List Token → Result (List Token) Span → Result (List Token) Span
+with_front front (Ok ts) = Ok (front ++ ts)
+with_front front (Err at) = Err at
 
 -- what the loop keeps
 pub record LexedTo (bytes : List ℕ) (found : List Token) (at : ℕ) (rest : List ℕ) : Type 0 where

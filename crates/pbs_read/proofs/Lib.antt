@@ -3,6 +3,7 @@ pub mod Finishes
 pub mod Phrases
 pub mod Exact
 pub mod Lexes
+pub mod Found
 pub mod Decimals
 pub mod Descends
 pub mod MarkLemmas

@@ -12,8 +12,8 @@ use Rattle.pbs_read.specs.declared.token.Mark.TheVariants.{EqualsMark, OpenCurly
 use Rattle.pbs_read.specs.declared.token.Mark.TheVariants.{CloseRoundMark, OpenSquareMark, CloseSquareMark, BarMark}
 use Rattle.pbs_read.specs.declared.token.Mark.TheVariants.{StarMark, PlusMark, QuestionMark, AmpersandMark, ColonMark}
 use Rattle.pbs_read.specs.Grammar.{token}
-use Rattle.pbs_read.specs.Marks.{kind_of, mark_of}
-use Rattle.pbs_read.specs.Descent.{BeginsWith}
+use Rattle.pbs_read.specs.descent.Marks.{kind_of, mark_of}
+use Rattle.pbs_read.specs.descent.Descent.{BeginsWith}
 
 mark_is : (m : Mark) → mark_of (kind_of m) ≡ Some m
 mark_is AName = refl

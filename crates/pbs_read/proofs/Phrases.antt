@@ -7,36 +7,38 @@ use Rattle.pbs_read.specs.declared.token.Token.{Token}
 use Rattle.pbs_read.specs.declared.token.Operator.{Operator}
 use Rattle.pbs_read.specs.declared.token.Operator.TheVariants.{StarOp, PlusOp, OptOp}
 use Rattle.pbs_read.specs.declared.token.TokenKind.{TokenKind}
-use Rattle.pbs_read.specs.declared.token.TokenKind.TheVariants.{Name, ProdWord, MainWord, HoldWord, TryWord, AbortWord}
-use Rattle.pbs_read.specs.declared.token.TokenKind.TheVariants.{ThenWord, Semicolon, Comma, Equals, OpenCurly}
-use Rattle.pbs_read.specs.declared.token.TokenKind.TheVariants.{CloseCurly, OpenRound, CloseRound, OpenSquare}
-use Rattle.pbs_read.specs.declared.token.TokenKind.TheVariants.{CloseSquare, Bar, Tilde, Ampersand, Colon}
-use Rattle.pbs_read.specs.Grammar.{token, Second, bit_kind, version_kind, Numeral, ZeroNumeral, OneNumeral, TwoNumeral}
-use Rattle.pbs_read.specs.Grammar.{DigitNumeral, LongNumeral, numeral_kind, Width, OneBit, TwoBits, MoreBits}
-use Rattle.pbs_read.specs.Grammar.{width_kind, operator_kind, UnitPhrase, Negated, Bracketed, Named, Bit, Compared}
-use Rattle.pbs_read.specs.Grammar.{AllPhrase, OneUnit, MoreUnits, TermPhrase, OneAll, MoreAlls, ExprPhrase, OneSeq}
-use Rattle.pbs_read.specs.Grammar.{MoreSeqs, SeqPhrase, OneItem, MoreItems, ItemPhrase, Plain, Repeated, Counted}
-use Rattle.pbs_read.specs.Grammar.{PrimPhrase, Terminal, Action, Call, Grouped, Hold, Try, GroupPhrase, EmptyGroup}
-use Rattle.pbs_read.specs.Grammar.{FullGroup, InputPhrase, OneWire, Bus, InputsPhrase, OneInput, MoreInputs}
-use Rattle.pbs_read.specs.Grammar.{NamesPhrase, OneName, MoreNames, SetsPhrase, NoSets, MoreSets, DeclPhrase, InputDecl}
-use Rattle.pbs_read.specs.Grammar.{ActionDecl, LevelDecl, ProdDecl, DeclsPhrase, NoDecls, MoreDecls, TextPhrase}
-use Rattle.pbs_read.specs.Grammar.{OfVersion, unit_tokens, all_tokens, term_tokens, expr_tokens, seq_tokens}
-use Rattle.pbs_read.specs.Grammar.{item_tokens, prim_tokens, group_tokens, input_tokens, inputs_tokens, names_tokens}
-use Rattle.pbs_read.specs.Grammar.{sets_tokens, decl_tokens, decls_tokens, head_tokens, text_tokens, Begins}
-use Rattle.pbs_read.specs.Places.{Front, ExprHole, OfGroup, OfProd, OfMain, SeqHole, FirstSeq, NextSeq, ItemHole}
-use Rattle.pbs_read.specs.Places.{FirstItem, NextItem, GroupHole, AsPrim, OfHold, OfBody, OfTrap, OfAfter, TermHole}
-use Rattle.pbs_read.specs.Places.{OfTerminal, OfGuard, InRound, AllHole, FirstAll, NextAll, UnitHole, UnderNot}
-use Rattle.pbs_read.specs.Places.{FirstUnit, NextUnit, InputHole, FirstInput, NextInput, FirstName, LevelFront, Place}
-use Rattle.pbs_read.specs.Places.{Start, InDecls, WantsInput, AfterInputName, WantsWidth, AfterInput, WantsName}
-use Rattle.pbs_read.specs.Places.{AfterName, AfterLevelEquals, AfterLevelBit, InLevel, AfterSetColon, AfterSetBit}
-use Rattle.pbs_read.specs.Places.{WantsItem, WantsGroup, InGroup, AfterPrim, WantsLeast, AfterLeast, WantsMost}
-use Rattle.pbs_read.specs.Places.{AfterMost, AfterItem, WantsUnit, AfterUnitName, WantsNumber, Whole, front_tokens}
-use Rattle.pbs_read.specs.Places.{before_expr, before_seq, before_item, before_group, before_term, before_all}
-use Rattle.pbs_read.specs.Places.{before_unit}
-use Rattle.pbs_read.specs.Steps.{second, bit_of, version_of, numeral_of, width_of, with_next, unit_hole, unit_all}
-use Rattle.pbs_read.specs.Steps.{with_unit, with_group, with_item, seq_hole, with_seq, expr_hole, close_round}
-use Rattle.pbs_read.specs.Steps.{close_square, close_group, close_expr, end_unit, start_item, end_item, end_input}
-use Rattle.pbs_read.specs.Steps.{first_front, level_front, step, walk}
+use Rattle.pbs_read.specs.declared.token.TokenKind.TheVariants.{Name, ProdWord, MainWord, HoldWord, TryWord}
+use Rattle.pbs_read.specs.declared.token.TokenKind.TheVariants.{AbortWord, ThenWord, Semicolon, Comma, Equals}
+use Rattle.pbs_read.specs.declared.token.TokenKind.TheVariants.{OpenCurly, CloseCurly, OpenRound, CloseRound}
+use Rattle.pbs_read.specs.declared.token.TokenKind.TheVariants.{OpenSquare, CloseSquare, Bar, Tilde, Ampersand, Colon}
+use Rattle.pbs_read.specs.Grammar.{token, Second, bit_kind, version_kind, Numeral, ZeroNumeral, OneNumeral}
+use Rattle.pbs_read.specs.Grammar.{TwoNumeral, DigitNumeral, LongNumeral, numeral_kind, Width, OneBit, TwoBits}
+use Rattle.pbs_read.specs.Grammar.{MoreBits, width_kind, operator_kind, UnitPhrase, Negated, Bracketed, Named, Bit}
+use Rattle.pbs_read.specs.Grammar.{Compared, AllPhrase, OneUnit, MoreUnits, TermPhrase, OneAll, MoreAlls, ExprPhrase}
+use Rattle.pbs_read.specs.Grammar.{OneSeq, MoreSeqs, SeqPhrase, OneItem, MoreItems, ItemPhrase, Plain, Repeated}
+use Rattle.pbs_read.specs.Grammar.{Counted, PrimPhrase, Terminal, Action, Call, Grouped, Hold, Try, GroupPhrase}
+use Rattle.pbs_read.specs.Grammar.{EmptyGroup, FullGroup, InputPhrase, OneWire, Bus, InputsPhrase, OneInput}
+use Rattle.pbs_read.specs.Grammar.{MoreInputs, NamesPhrase, OneName, MoreNames, SetsPhrase, NoSets, MoreSets}
+use Rattle.pbs_read.specs.Grammar.{DeclPhrase, InputDecl, ActionDecl, LevelDecl, ProdDecl, DeclsPhrase, NoDecls}
+use Rattle.pbs_read.specs.Grammar.{MoreDecls, TextPhrase, OfVersion, unit_tokens, all_tokens, term_tokens}
+use Rattle.pbs_read.specs.Grammar.{expr_tokens, seq_tokens, item_tokens, prim_tokens, group_tokens, input_tokens}
+use Rattle.pbs_read.specs.Grammar.{inputs_tokens, names_tokens, sets_tokens, decl_tokens, decls_tokens, head_tokens}
+use Rattle.pbs_read.specs.Grammar.{text_tokens, Begins}
+use Rattle.pbs_read.specs.Holes.{Front, ExprHole, OfGroup, OfProd, OfMain, SeqHole, FirstSeq, NextSeq, ItemHole}
+use Rattle.pbs_read.specs.Holes.{FirstItem, NextItem, GroupHole, AsPrim, OfHold, OfBody, OfTrap, OfAfter, TermHole}
+use Rattle.pbs_read.specs.Holes.{OfTerminal, OfGuard, InRound, AllHole, FirstAll, NextAll, UnitHole, UnderNot}
+use Rattle.pbs_read.specs.Holes.{FirstUnit, NextUnit, front_tokens, before_expr, before_seq, before_item}
+use Rattle.pbs_read.specs.Holes.{before_group, before_term, before_all, before_unit}
+use Rattle.pbs_read.specs.descent.Places.{InputHole, FirstInput, NextInput, FirstName, LevelFront, Place, Start}
+use Rattle.pbs_read.specs.descent.Places.{InDecls, WantsInput, AfterInputName, WantsWidth, AfterInput, WantsName}
+use Rattle.pbs_read.specs.descent.Places.{AfterName, AfterLevelEquals, AfterLevelBit, InLevel, AfterSetColon}
+use Rattle.pbs_read.specs.descent.Places.{AfterSetBit, WantsItem, WantsGroup, InGroup, AfterPrim, WantsLeast}
+use Rattle.pbs_read.specs.descent.Places.{AfterLeast, WantsMost, AfterMost, AfterItem, WantsUnit, AfterUnitName}
+use Rattle.pbs_read.specs.descent.Places.{WantsNumber, Whole}
+use Rattle.pbs_read.specs.descent.Steps.{second, bit_of, version_of, numeral_of, width_of, with_next, unit_hole}
+use Rattle.pbs_read.specs.descent.Steps.{unit_all, with_unit, with_group, with_item, seq_hole, with_seq, expr_hole}
+use Rattle.pbs_read.specs.descent.Steps.{close_round, close_square, close_group, close_expr, end_unit, start_item}
+use Rattle.pbs_read.specs.descent.Steps.{end_item, end_input, first_front, level_front, step, walk}
 use Rattle.pbs_read.proofs.Walks.{walk-before, walk-append}
 use Rattle.pbs_read.proofs.Finishes.{finish}
 

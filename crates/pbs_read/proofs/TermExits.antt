@@ -1,32 +1,33 @@
 -- Each exit of the descent over terms, over plain variables.
-use Rattle.std.proofs.Common.{◌≡◌, ◌≢◌, ℕ, ◌+◌, ◌<◌, ◌≤◌, List, [], ◌∷◌, ◌++◌, length, map, Bool, None, Result, Ok, Err}
-use Rattle.std.proofs.Common.{refl, sym, ap, ap₂, ◌∙◌, false, true, arith, length-append}
+use Rattle.std.proofs.Common.{◌≡◌, ◌≢◌, ℕ, ◌+◌, ◌<◌, ◌≤◌, List, [], ◌∷◌, ◌++◌, length, map, Bool, None, Result, Ok}
+use Rattle.std.proofs.Common.{Err, refl, sym, ap, ap₂, ◌∙◌, false, true, arith, length-append}
 use Rattle.std.specs.Prelude.{nat_lt, option_map, IfOk, IfErr}
 use Rattle.std.proofs.lemmas.Bool.{false≢true}
 use Rattle.std.proofs.lemmas.Bool.Decides.{nat_tests}
 use Rattle.pbs_ast.specs.declared.syntax.SpecTerm.{SpecTerm, Row_of-SpecTerm, end_of-SpecTerm, more_of-SpecTerm}
 use Rattle.pbs_ast.specs.declared.syntax.SpecTerm.{items-the_row-SpecTerm, items_hidden-the_row-SpecTerm-0}
 use Rattle.pbs_ast.specs.declared.syntax.SpecTerm.TheBlock.{hidden-the_row-SpecTerm-0}
-use Rattle.pbs_ast.specs.declared.syntax.SpecTerm as node
 use Rattle.pbs_read.specs.declared.fail.ReadSpec.{ReadSpec}
 use Rattle.pbs_read.specs.declared.fail.ReadSpec.TheVariants.{Refused}
 use Rattle.pbs_read.specs.Bare.{bare_term, bare_terms}
 use Rattle.pbs_read.specs.Trees.{word_at, one_or, all_node, any_node, unit_tree, all_items, term_items, all_tree}
-use Rattle.pbs_read.specs.Reading.{unit_nesting, stepped, bind, ended, read}
-use Rattle.pbs_read.specs.Descent.{BeginsWith, NoFront, front_refusal, behind_term, ReadsUnit, StopsUnit, ReadsAll}
-use Rattle.pbs_read.specs.Descent.{ReadsTerm, AllSoFar, TermSoFar, negated_term, TakesNumeral}
+use Rattle.pbs_read.specs.Holes.{unit_nesting, TermHole, InRound, FirstAll, NextAll, UnitHole, UnderNot, FirstUnit}
+use Rattle.pbs_read.specs.Holes.{NextUnit}
+use Rattle.pbs_read.specs.descent.Reading.{stepped, bind, ended, read}
+use Rattle.pbs_read.specs.descent.Descent.{BeginsWith, NoFront, front_refusal, behind_term, ReadsUnit, StopsUnit}
+use Rattle.pbs_read.specs.descent.Descent.{ReadsAll, ReadsTerm, AllSoFar, TermSoFar, negated_term, TakesNumeral}
+use Rattle.pbs_read.specs.Grammar.{token, Second, bit_kind, Numeral, ZeroNumeral, OneNumeral, TwoNumeral}
+use Rattle.pbs_read.specs.Grammar.{DigitNumeral, LongNumeral, numeral_kind, Negated, Bracketed, Named, Bit, Compared}
+use Rattle.pbs_read.specs.Grammar.{AllPhrase, OneUnit, MoreUnits, TermPhrase, OneAll, MoreAlls}
+use Rattle.pbs_read.specs.descent.Places.{WantsUnit, AfterUnitName, WantsNumber}
+use Rattle.pbs_read.specs.descent.Steps.{second, numeral_of, with_unit, step}
 use Rattle.std.proofs.lemmas.List.{map-append, length-map}
 use Rattle.pbs_base.specs.declared.refusal.Span.{Span}
 use Rattle.pbs_read.specs.declared.token.Token.{Token}
 use Rattle.pbs_read.specs.declared.token.TokenKind.{TokenKind}
 use Rattle.pbs_read.specs.declared.token.TokenKind.TheVariants.{Name, Equals, OpenRound, CloseRound, Bar, Tilde}
 use Rattle.pbs_read.specs.declared.token.TokenKind.TheVariants.{Ampersand}
-use Rattle.pbs_read.specs.Grammar.{token, Second, bit_kind, Numeral, ZeroNumeral, OneNumeral, TwoNumeral, DigitNumeral}
-use Rattle.pbs_read.specs.Grammar.{LongNumeral, numeral_kind, Negated, Bracketed, Named, Bit, Compared, AllPhrase}
-use Rattle.pbs_read.specs.Grammar.{OneUnit, MoreUnits, TermPhrase, OneAll, MoreAlls}
-use Rattle.pbs_read.specs.Places.{TermHole, InRound, FirstAll, NextAll, UnitHole, UnderNot, FirstUnit, NextUnit}
-use Rattle.pbs_read.specs.Places.{WantsUnit, AfterUnitName, WantsNumber}
-use Rattle.pbs_read.specs.Steps.{second, numeral_of, with_unit, step}
+use Rattle.pbs_ast.specs.declared.syntax.SpecTerm as node
 
 -- one more construct may be opened
 pub shallow : (depth n : ℕ) → depth ≢ 64 → depth ≤ 64 → n ≡ depth → nat_lt 63 n ≡ false

@@ -14,25 +14,27 @@ use Rattle.pbs_read.specs.declared.token.TokenKind.TheVariants.{Question, Tilde,
 use Rattle.pbs_read.specs.Grammar.{token, bit_kind, version_kind, numeral_kind, width_kind, UnitPhrase, Negated}
 use Rattle.pbs_read.specs.Grammar.{Bracketed, Named, Bit, Compared, AllPhrase, TermPhrase, ExprPhrase, SeqPhrase}
 use Rattle.pbs_read.specs.Grammar.{ItemPhrase, Plain, PrimPhrase, GroupPhrase, EmptyGroup, FullGroup, InputPhrase}
-use Rattle.pbs_read.specs.Grammar.{OneWire, unit_tokens, all_tokens, term_tokens, expr_tokens, seq_tokens, item_tokens}
-use Rattle.pbs_read.specs.Grammar.{group_tokens, input_tokens, inputs_tokens, sets_tokens}
-use Rattle.pbs_read.specs.Places.{Front, ExprHole, OfGroup, OfProd, OfMain, SeqHole, FirstSeq, NextSeq, ItemHole}
-use Rattle.pbs_read.specs.Places.{FirstItem, NextItem, GroupHole, AsPrim, OfHold, OfBody, OfTrap, OfAfter, TermHole}
-use Rattle.pbs_read.specs.Places.{OfTerminal, OfGuard, InRound, AllHole, FirstAll, NextAll, UnitHole, UnderNot}
-use Rattle.pbs_read.specs.Places.{FirstUnit, NextUnit, InputHole, FirstInput, NextInput, NameHole, FirstName, NextName}
-use Rattle.pbs_read.specs.Places.{Place, Start, AfterSpec, AfterVersion, InDecls, WantsInput, AfterInputName}
-use Rattle.pbs_read.specs.Places.{WantsWidth, AfterInput, WantsName, AfterName, AfterLevel, AfterLevelName}
-use Rattle.pbs_read.specs.Places.{AfterLevelEquals, AfterLevelBit, InLevel, AfterSetName, AfterSetColon, AfterSetBit}
-use Rattle.pbs_read.specs.Places.{AfterProd, AfterProdName, AfterMain, WantsItem, WantsGroup, InGroup, InCurly}
-use Rattle.pbs_read.specs.Places.{AfterActionName, AfterHold, AfterGuard, AfterBody, AfterTrap, AfterPrim, WantsLeast}
-use Rattle.pbs_read.specs.Places.{AfterLeast, WantsMost, AfterMost, AfterItem, WantsUnit, AfterUnitName, WantsNumber}
-use Rattle.pbs_read.specs.Places.{AfterUnit, front_tokens, before_expr, before_seq, before_item, before_group}
-use Rattle.pbs_read.specs.Places.{before_term, before_all, before_unit, before_input, before_name, level_tokens, before}
-use Rattle.pbs_read.specs.Steps.{second, bit_of, version_of, numeral_of, width_of, unit_hole, unit_all, with_unit}
-use Rattle.pbs_read.specs.Steps.{with_group, with_all, term_hole, with_item, seq_hole, with_seq, expr_hole, with_input}
-use Rattle.pbs_read.specs.Steps.{input_front, input_at, with_name, close_round, close_square, close_group, close_expr}
-use Rattle.pbs_read.specs.Steps.{end_unit, compare, start_item, end_item, count, end_input, widen, start_decl, step}
-use Rattle.pbs_read.specs.Steps.{walk}
+use Rattle.pbs_read.specs.Grammar.{OneWire, unit_tokens, all_tokens, term_tokens, expr_tokens, seq_tokens}
+use Rattle.pbs_read.specs.Grammar.{item_tokens, group_tokens, input_tokens, inputs_tokens, sets_tokens}
+use Rattle.pbs_read.specs.Holes.{Front, ExprHole, OfGroup, OfProd, OfMain, SeqHole, FirstSeq, NextSeq, ItemHole}
+use Rattle.pbs_read.specs.Holes.{FirstItem, NextItem, GroupHole, AsPrim, OfHold, OfBody, OfTrap, OfAfter, TermHole}
+use Rattle.pbs_read.specs.Holes.{OfTerminal, OfGuard, InRound, AllHole, FirstAll, NextAll, UnitHole, UnderNot}
+use Rattle.pbs_read.specs.Holes.{FirstUnit, NextUnit, front_tokens, before_expr, before_seq, before_item}
+use Rattle.pbs_read.specs.Holes.{before_group, before_term, before_all, before_unit}
+use Rattle.pbs_read.specs.descent.Places.{InputHole, FirstInput, NextInput, NameHole, FirstName, NextName, Place}
+use Rattle.pbs_read.specs.descent.Places.{Start, AfterSpec, AfterVersion, InDecls, WantsInput, AfterInputName}
+use Rattle.pbs_read.specs.descent.Places.{WantsWidth, AfterInput, WantsName, AfterName, AfterLevel, AfterLevelName}
+use Rattle.pbs_read.specs.descent.Places.{AfterLevelEquals, AfterLevelBit, InLevel, AfterSetName, AfterSetColon}
+use Rattle.pbs_read.specs.descent.Places.{AfterSetBit, AfterProd, AfterProdName, AfterMain, WantsItem, WantsGroup}
+use Rattle.pbs_read.specs.descent.Places.{InGroup, InCurly, AfterActionName, AfterHold, AfterGuard, AfterBody}
+use Rattle.pbs_read.specs.descent.Places.{AfterTrap, AfterPrim, WantsLeast, AfterLeast, WantsMost, AfterMost}
+use Rattle.pbs_read.specs.descent.Places.{AfterItem, WantsUnit, AfterUnitName, WantsNumber, AfterUnit, before_input}
+use Rattle.pbs_read.specs.descent.Places.{before_name, level_tokens, before}
+use Rattle.pbs_read.specs.descent.Steps.{second, bit_of, version_of, numeral_of, width_of, unit_hole, unit_all}
+use Rattle.pbs_read.specs.descent.Steps.{with_unit, with_group, with_all, term_hole, with_item, seq_hole, with_seq}
+use Rattle.pbs_read.specs.descent.Steps.{expr_hole, with_input, input_front, input_at, with_name, close_round}
+use Rattle.pbs_read.specs.descent.Steps.{close_square, close_group, close_expr, end_unit, compare, start_item}
+use Rattle.pbs_read.specs.descent.Steps.{end_item, count, end_input, widen, start_decl, step, walk}
 
 -- ---- what stands before the place behind a phrase
 

@@ -8,8 +8,7 @@ use Rattle.pbs_read.specs.declared.fail.ReadSpec.{ReadSpec}
 use Rattle.pbs_read.specs.declared.fail.ReadSpec.TheVariants.{Memory, Refused}
 use Rattle.pbs_read.specs.Grammar.{TextPhrase}
 use Rattle.pbs_read.specs.Trees.{text_spec}
-use Rattle.pbs_read.specs.Reading.{refusal}
-use Rattle.pbs_read.specs.Refusals.{IsRead, IsRefused}
+use Rattle.pbs_read.specs.Refusals.{refusal, IsRead, IsRefused}
 use Rattle.pbs_read.specs.Lexing.{tokens}
 
 -- rule 1
@@ -46,8 +45,3 @@ Refuses bytes (Refused r) = IsRefusedBy bytes r
 abbrev pub IsThe : Refusal → ReadSpec → Type 0
 IsThe r Memory = Unit {0}
 IsThe r (Refused q) = q ≡ r
-
--- rule 2 is broken first at this span, unless memory ran out
-abbrev pub StopsLexing : List ℕ → ReadSpec → Type 0
-StopsLexing bytes Memory = Unit {0}
-StopsLexing bytes (Refused r) = (at : Span) × (r ≡ refusal 2 at) × (tokens bytes ≡ Err at)

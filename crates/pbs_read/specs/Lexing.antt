@@ -153,11 +153,6 @@ lex (suc skip) at (b ∷ bs) = lex skip (at + 1) bs
 abbrev pub tokens : List ℕ → Result (List Token) Span
 tokens bytes = lex 0 0 bytes
 
--- tokens that were found before
-abbrev pub with_front : List Token → Result (List Token) Span → Result (List Token) Span
-with_front front (Ok ts) = Ok (front ++ ts)
-with_front front (Err at) = Err at
-
 -- a piece has at least one byte, and no more than there are
 abbrev pub IsWithin : ℕ → Piece → Type 0
 IsWithin len (Gap n) = (0 < n) × (n ≤ len)

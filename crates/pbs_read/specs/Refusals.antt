@@ -5,8 +5,17 @@ use Rattle.pbs_read.specs.declared.token.Token.{Token}
 use Rattle.pbs_read.specs.declared.token.TokenKind.{TokenKind}
 use Rattle.pbs_read.specs.declared.token.TokenKind.TheVariants.{OpenRound, Tilde}
 use Rattle.pbs_read.specs.Grammar.{TextPhrase, text_tokens, IsText, Begins}
-use Rattle.pbs_read.specs.Places.{ItemHole, GroupHole, UnitHole, before_item, before_group, before_unit}
-use Rattle.pbs_read.specs.Reading.{item_nesting, group_nesting, unit_nesting, refusal, point}
+use Rattle.pbs_read.specs.Holes.{ItemHole, GroupHole, UnitHole, before_item, before_group, before_unit, item_nesting}
+use Rattle.pbs_read.specs.Holes.{group_nesting, unit_nesting}
+use Rattle.pbs_base.specs.declared.refusal.Span.{Span}
+use Rattle.pbs_base.specs.declared.refusal.Subject.TheVariants.{Spec}
+
+abbrev pub refusal : ℕ → Span → Refusal
+refusal rule span = record { subject = Spec; rule = rule; span = span }
+
+-- the empty span at a place
+abbrev pub point : ℕ → Span
+point n = record { start = n; end = n }
 
 -- no text of the grammar begins with the tokens up to and including this one
 abbrev pub CannotStand : List Token → Token → Type 0

@@ -2,9 +2,9 @@
 ghost use Rattle.std.specs.Prelude.{◌≡◌, ◌∷◌, [], true, IfOk, IfErr, IfNone, IfSome, MatchOption, option_map};
 ghost use Rattle.pbs_read.specs.Grammar.{token, operator_kind};
 ghost use Rattle.pbs_read.specs.Trees.{word_at, numeral_value};
-ghost use Rattle.pbs_read.specs.Marks.{kind_of, mark_of};
-ghost use Rattle.pbs_read.specs.Steps.{numeral_of};
-ghost use Rattle.pbs_read.specs.Descent.{BeginsWith, NoFront, NoOperator, TakesNumeral, front_refusal};
+ghost use Rattle.pbs_read.specs.descent.Marks.{kind_of, mark_of};
+ghost use Rattle.pbs_read.specs.descent.Steps.{numeral_of};
+ghost use Rattle.pbs_read.specs.descent.Descent.{BeginsWith, NoFront, NoOperator, TakesNumeral, front_refusal};
 
 use crate::fail::ReadSpec;
 use crate::token::{Mark, Operator, Token, TokenKind};

@@ -3,13 +3,14 @@ ghost use Rattle.std.specs.Prelude.{ℕ, Bool, ◌≡◌, ◌≤◌, ◌<◌, �
 ghost use Rattle.std.specs.Prelude.{option_map};
 ghost use Rattle.pbs_read.specs.Bare.{bare_prod};
 ghost use Rattle.pbs_read.specs.Grammar.{token};
-ghost use Rattle.pbs_read.specs.Steps.{bit_of, width_of};
+ghost use Rattle.pbs_read.specs.descent.Steps.{bit_of, width_of};
 ghost use Rattle.pbs_read.specs.Trees.{width_value, declared};
-ghost use Rattle.pbs_read.specs.Descent.{NoFront, BeginsWith, front_refusal};
+ghost use Rattle.pbs_read.specs.descent.Descent.{NoFront, BeginsWith, front_refusal};
+ghost use Rattle.pbs_read.specs.descent.DeclDescent.{TakesBit, ReadsWidth, StopsWidth, ReadsInput, StopsInput};
+ghost use Rattle.pbs_read.specs.descent.DeclDescent.{ReadsInputs, StopsInputs, ReadsNames, StopsNames, ReadsSet};
+ghost use Rattle.pbs_read.specs.descent.DeclDescent.{StopsSet, ReadsSets, StopsSets, ReadsLevelHead, StopsLevel};
+ghost use Rattle.pbs_read.specs.descent.DeclDescent.{ReadsLevel, ReadsProd, StopsProd};
 ghost use Rattle.pbs_read.specs.declared.token.TokenKind.TheVariants.{Name};
-ghost use Rattle.pbs_read.specs.DeclDescent.{TakesBit, ReadsWidth, StopsWidth, ReadsInput, StopsInput, ReadsInputs};
-ghost use Rattle.pbs_read.specs.DeclDescent.{StopsInputs, ReadsNames, StopsNames, ReadsSet, StopsSet, ReadsSets};
-ghost use Rattle.pbs_read.specs.DeclDescent.{StopsSets, ReadsLevelHead, StopsLevel, ReadsLevel, ReadsProd, StopsProd};
 
 use crate::common::{behind, expect, front, second, stop, word};
 use crate::exprs::expr;

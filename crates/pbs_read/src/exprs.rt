@@ -3,11 +3,11 @@ ghost use Rattle.std.specs.Prelude.{ℕ, ◌≡◌, ◌≤◌, ◌<◌, ◌+◌,
 ghost use Rattle.pbs_read.specs.Bare.{bare_term, bare_expr, expr};
 ghost use Rattle.pbs_read.specs.Trees.{joined, repeat_node, word_at};
 ghost use Rattle.pbs_read.specs.Grammar.{token};
-ghost use Rattle.pbs_read.specs.Places.{WantsItem};
-ghost use Rattle.pbs_read.specs.Reading.{item_nesting};
-ghost use Rattle.pbs_read.specs.Descent.{Stops, ReadsGroup, StopsGroup, ReadsPrim, ReadsItem, StopsItem, ReadsSeq};
-ghost use Rattle.pbs_read.specs.Descent.{StopsSeq, ReadsExpr, StopsExpr, ReadsBounds, StopsBounds, ReadsGuard};
-ghost use Rattle.pbs_read.specs.Descent.{after_hold, BeginsWith};
+ghost use Rattle.pbs_read.specs.descent.Places.{WantsItem};
+ghost use Rattle.pbs_read.specs.Holes.{item_nesting};
+ghost use Rattle.pbs_read.specs.descent.Descent.{Stops, ReadsGroup, StopsGroup, ReadsPrim, ReadsItem, StopsItem};
+ghost use Rattle.pbs_read.specs.descent.Descent.{ReadsSeq, StopsSeq, ReadsExpr, StopsExpr, ReadsBounds, StopsBounds};
+ghost use Rattle.pbs_read.specs.descent.Descent.{ReadsGuard, after_hold, BeginsWith};
 ghost use Rattle.pbs_read.specs.declared.token.TokenKind.TheVariants.{Name, OpenCurly, OpenSquare, HoldWord, TryWord};
 ghost use Rattle.pbs_read.specs.declared.token.TokenKind.TheVariants.{Comma, Bar};
 

@@ -4,9 +4,9 @@ ghost use Rattle.pbs_ast.specs.declared.syntax.SpecTerm as node;
 ghost use Rattle.pbs_read.specs.Bare.{bare_term};
 ghost use Rattle.pbs_read.specs.Grammar.{token};
 ghost use Rattle.pbs_read.specs.Trees.{unit_tree};
-ghost use Rattle.pbs_read.specs.Marks.{kind_of};
-ghost use Rattle.pbs_read.specs.Descent.{ReadsUnit, StopsUnit, ReadsAll, StopsAll, ReadsTerm, StopsTerm, BeginsWith};
-ghost use Rattle.pbs_read.specs.Descent.{front_refusal, negated_term};
+ghost use Rattle.pbs_read.specs.descent.Marks.{kind_of};
+ghost use Rattle.pbs_read.specs.descent.Descent.{ReadsUnit, StopsUnit, ReadsAll, StopsAll, ReadsTerm, StopsTerm};
+ghost use Rattle.pbs_read.specs.descent.Descent.{BeginsWith, front_refusal, negated_term};
 ghost use Rattle.pbs_read.specs.declared.token.TokenKind.TheVariants.{Name, Equals, Tilde, OpenRound, Ampersand, Bar};
 
 use crate::common::{MAX_NESTING, behind, front, numeral, refused, second, stop, word};

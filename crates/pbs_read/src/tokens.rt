@@ -1,7 +1,7 @@
 // The tokens of a text.
 ghost use Rattle.std.specs.Prelude.{◌≡◌, ◌≤◌, ◌+◌, length, IfOk, IfErr, Ok};
 ghost use Rattle.pbs_read.specs.Lexing as lexing;
-ghost use Rattle.pbs_read.specs.Answers.{StopsLexing};
+ghost use Rattle.pbs_read.specs.descent.TextDescent.{StopsLexing};
 
 use crate::fail::ReadSpec;
 use crate::piece::{Piece, first_piece};

@@ -3,8 +3,6 @@ use Rattle.std.proofs.Common.{◌≡◌, ℕ, List, [], ◌∷◌, ◌++◌, len
 use Rattle.std.specs.Prelude.{codes}
 use Rattle.std.specs.Fmt.{digits}
 use Rattle.pbs_base.specs.declared.refusal.Span.{Span}
-use Rattle.pbs_ast.specs.declared.syntax.SpecTerm as term
-use Rattle.pbs_ast.specs.declared.syntax.Kind as kind
 use Rattle.pbs_ast.specs.declared.syntax.Kind.{Kind}
 use Rattle.pbs_ast.specs.declared.syntax.SpecTerm.{SpecTerm}
 use Rattle.pbs_ast.specs.declared.syntax.Expr.{Expr}
@@ -15,12 +13,14 @@ use Rattle.pbs_read.specs.Grammar.{OneSeq, MoreSeqs, OneItem, Plain, Counted, Te
 use Rattle.pbs_read.specs.Grammar.{FullGroup, OneName, NoSets, MoreSets, ActionDecl, LevelDecl, NoDecls, MoreDecls}
 use Rattle.pbs_read.specs.Grammar.{TextPhrase, OfVersion, text_tokens}
 use Rattle.pbs_read.specs.Trees.{text_spec}
-use Rattle.pbs_read.specs.Places.{Start}
-use Rattle.pbs_read.specs.Reading.{read}
+use Rattle.pbs_read.specs.descent.Places.{Start}
+use Rattle.pbs_read.specs.descent.Reading.{read}
 use Rattle.pbs_read.specs.Lexing.{tokens, lex}
 use Rattle.pbs_print.specs.Canonical.{canonical}
 use Rattle.pbs_print.proofs.JoinedPieces.{text-all, text-choice}
 use Rattle.pbs_round.specs.Unspanned.{unspanned, unspanned_term, unspanned_kind, unspanned_expr, no_span}
+use Rattle.pbs_ast.specs.declared.syntax.SpecTerm as term
+use Rattle.pbs_ast.specs.declared.syntax.Kind as kind
 use Rattle.pbs_round.proofs.TermPhrases as terms
 use Rattle.pbs_round.proofs.ExprPhrases as exprs
 

@@ -3,18 +3,19 @@ use Rattle.std.proofs.Common.{◌≡◌, ℕ, suc, ◌<◌, ◌≤◌, List, [],
 use Rattle.std.proofs.Common.{append_assoc, append-nil, arith, lit<}
 use Rattle.std.specs.Prelude.{codes, not}
 use Rattle.pbs_base.specs.declared.refusal.Span.{Span}
-use Rattle.pbs_ast.specs.declared.syntax.Kind as node
 use Rattle.pbs_ast.specs.declared.syntax.Kind.{Kind, Row_of-Expr, end_of-Expr, more_of-Expr}
-use Rattle.pbs_read.specs.declared.token.TokenKind.TheVariants as kind
 use Rattle.pbs_read.specs.Grammar.{Second}
 use Rattle.pbs_print.specs.Canonical.{followed, joined, bracketed, is_empty, is_choice, is_list, is_wide, term_text}
 use Rattle.pbs_print.specs.Canonical.{kind_text, seq_members, choice_members}
 use Rattle.pbs_round.specs.Unspanned.{unspanned_exprs}
 use Rattle.pbs_round.proofs.Nesting.{Opened, closed, closed-twice, length-closed}
-use Rattle.pbs_round.proofs.Pieces.{Piece, Blank, Sign, Word, Digits, text, text-append, IsWord, IsSmall, IsParted}
-use Rattle.pbs_round.proofs.Pieces.{IsReadable, Flat, wrapped, text-wrapped, InBrackets, ReadsOn, wrapped-reads}
-use Rattle.pbs_round.proofs.Pieces.{not_over, FlatAt, wrapped-flat}
+use Rattle.pbs_round.proofs.Pieces.{Piece, Blank, Sign, Word, Digits, text, text-append, IsParted, IsReadable, Flat}
+use Rattle.pbs_round.proofs.Pieces.{wrapped, text-wrapped, InBrackets, ReadsOn, wrapped-reads, not_over, FlatAt}
+use Rattle.pbs_round.proofs.Pieces.{wrapped-flat}
 use Rattle.pbs_round.proofs.Terms.{term_pieces, text-term, TermIs, term-reads, term-flat}
+use Rattle.pbs_read.proofs.Found.{IsWord, IsSmall}
+use Rattle.pbs_ast.specs.declared.syntax.Kind as node
+use Rattle.pbs_read.specs.declared.token.TokenKind.TheVariants as kind
 
 -- ---- pieces
 

@@ -22,7 +22,7 @@ use Rattle.pbs_print.specs.Canonical.{is_empty, is_choice, is_list, is_wide}
 use Rattle.pbs_round.specs.Unspanned.{unspanned_exprs, unspanned_expr}
 use Rattle.pbs_round.proofs.Nesting.{Opened, Round, closed}
 use Rattle.pbs_round.proofs.Pieces.{InBrackets}
-use Rattle.pbs_round.proofs.Found.{Proper, proper-number}
+use Rattle.pbs_round.proofs.Proper.{Proper, proper-number}
 use Rattle.pbs_round.proofs.TermsRead.{Each, each-end, lower-brackets, lower, low, some_more, ItemsRead, term_is_read}
 use Rattle.pbs_round.proofs.Exprs.{ExprList, SeqOf, ChoiceOf, wraps, KindIs, KindsAre}
 use Rattle.pbs_round.proofs.ExprPhrases.{unspanned-row}

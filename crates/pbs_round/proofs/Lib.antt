@@ -2,7 +2,7 @@ mod Nesting
 mod Pieces
 mod Terms
 mod TermPhrases
-mod Found
+mod Proper
 mod TermsRead
 mod Exprs
 mod ExprPhrases

@@ -10,7 +10,7 @@ use Rattle.pbs_read.specs.Grammar.{MoreDecls, SpecPhrase, version_kind, input_to
 use Rattle.pbs_read.specs.Grammar.{sets_tokens, decl_tokens, decls_tokens, spec_tokens, expr_tokens}
 use Rattle.pbs_read.specs.Trees.{declared, input_of, inputs_of, names_of, sets_of, Declared, with_decl, declared_by}
 use Rattle.pbs_read.specs.Trees.{spec_of, expr_tree, word_at}
-use Rattle.pbs_round.proofs.Found.{Proper}
+use Rattle.pbs_round.proofs.Proper.{Proper}
 use Rattle.pbs_round.proofs.TermsRead.{Each, each-end}
 use Rattle.pbs_round.proofs.ExprsRead.{expr_is_read}
 use Rattle.pbs_round.proofs.Lines.{DeclIs, ActionIs, SetIs, LevelIs, ProdIs, SpecIs}

@@ -11,24 +11,27 @@ use Rattle.pbs_read.specs.declared.token.TokenKind.TheVariants.{HoldWord, TryWor
 use Rattle.pbs_read.specs.declared.token.TokenKind.TheVariants.{Comma, Equals, OpenCurly, CloseCurly, OpenRound}
 use Rattle.pbs_read.specs.declared.token.TokenKind.TheVariants.{CloseRound, OpenSquare, CloseSquare, Bar, Star, Plus}
 use Rattle.pbs_read.specs.declared.token.TokenKind.TheVariants.{Question, Tilde, Ampersand, Colon}
-use Rattle.pbs_read.specs.Grammar.{ZeroNumeral, OneNumeral, TwoNumeral, DigitNumeral, LongNumeral, UnitPhrase, Negated}
-use Rattle.pbs_read.specs.Grammar.{Bracketed, Named, Bit, Compared, AllPhrase, TermPhrase, ExprPhrase, ItemPhrase}
-use Rattle.pbs_read.specs.Grammar.{Plain, GroupPhrase, TextPhrase}
-use Rattle.pbs_read.specs.Places.{ExprHole, OfGroup, OfProd, OfMain, SeqHole, FirstSeq, NextSeq, ItemHole, FirstItem}
-use Rattle.pbs_read.specs.Places.{NextItem, GroupHole, AsPrim, OfHold, OfBody, OfTrap, OfAfter, TermHole, OfTerminal}
-use Rattle.pbs_read.specs.Places.{OfGuard, InRound, AllHole, FirstAll, NextAll, UnitHole, UnderNot, FirstUnit, NextUnit}
-use Rattle.pbs_read.specs.Places.{NameHole, FirstName, NextName, Place, Start, AfterSpec, AfterVersion, InDecls}
-use Rattle.pbs_read.specs.Places.{WantsInput, AfterInputName, WantsWidth, AfterInput, WantsName, AfterName, AfterLevel}
-use Rattle.pbs_read.specs.Places.{AfterLevelName, AfterLevelEquals, AfterLevelBit, InLevel, AfterSetName, AfterSetColon}
-use Rattle.pbs_read.specs.Places.{AfterSetBit, AfterProd, AfterProdName, AfterMain, WantsItem, WantsGroup, InGroup}
-use Rattle.pbs_read.specs.Places.{InCurly, AfterActionName, AfterHold, AfterGuard, AfterBody, AfterTrap, AfterPrim}
-use Rattle.pbs_read.specs.Places.{WantsLeast, AfterLeast, WantsMost, AfterMost, AfterItem, WantsUnit, AfterUnitName}
-use Rattle.pbs_read.specs.Places.{WantsNumber, AfterUnit, Whole}
-use Rattle.pbs_read.specs.Steps.{second, unit_hole, unit_all, with_unit, with_group, with_all, term_hole, seq_hole}
-use Rattle.pbs_read.specs.Steps.{expr_hole, with_name, close_round, close_square, close_group, close_expr, end_unit}
-use Rattle.pbs_read.specs.Steps.{start_item, end_item, step, walk}
-use Rattle.pbs_read.specs.Reading.{expr_nesting, seq_nesting, item_nesting, group_nesting, term_nesting, all_nesting}
-use Rattle.pbs_read.specs.Reading.{unit_nesting, refusal, is_too_deep, stepped, bind, read}
+use Rattle.pbs_read.specs.Grammar.{ZeroNumeral, OneNumeral, TwoNumeral, DigitNumeral, LongNumeral, UnitPhrase}
+use Rattle.pbs_read.specs.Grammar.{Negated, Bracketed, Named, Bit, Compared, AllPhrase, TermPhrase, ExprPhrase}
+use Rattle.pbs_read.specs.Grammar.{ItemPhrase, Plain, GroupPhrase, TextPhrase}
+use Rattle.pbs_read.specs.Holes.{ExprHole, OfGroup, OfProd, OfMain, SeqHole, FirstSeq, NextSeq, ItemHole, FirstItem}
+use Rattle.pbs_read.specs.Holes.{NextItem, GroupHole, AsPrim, OfHold, OfBody, OfTrap, OfAfter, TermHole, OfTerminal}
+use Rattle.pbs_read.specs.Holes.{OfGuard, InRound, AllHole, FirstAll, NextAll, UnitHole, UnderNot, FirstUnit}
+use Rattle.pbs_read.specs.Holes.{NextUnit, expr_nesting, seq_nesting, item_nesting, group_nesting, term_nesting}
+use Rattle.pbs_read.specs.Holes.{all_nesting, unit_nesting}
+use Rattle.pbs_read.specs.descent.Places.{NameHole, FirstName, NextName, Place, Start, AfterSpec, AfterVersion}
+use Rattle.pbs_read.specs.descent.Places.{InDecls, WantsInput, AfterInputName, WantsWidth, AfterInput, WantsName}
+use Rattle.pbs_read.specs.descent.Places.{AfterName, AfterLevel, AfterLevelName, AfterLevelEquals, AfterLevelBit}
+use Rattle.pbs_read.specs.descent.Places.{InLevel, AfterSetName, AfterSetColon, AfterSetBit, AfterProd, AfterProdName}
+use Rattle.pbs_read.specs.descent.Places.{AfterMain, WantsItem, WantsGroup, InGroup, InCurly, AfterActionName}
+use Rattle.pbs_read.specs.descent.Places.{AfterHold, AfterGuard, AfterBody, AfterTrap, AfterPrim, WantsLeast}
+use Rattle.pbs_read.specs.descent.Places.{AfterLeast, WantsMost, AfterMost, AfterItem, WantsUnit, AfterUnitName}
+use Rattle.pbs_read.specs.descent.Places.{WantsNumber, AfterUnit, Whole}
+use Rattle.pbs_read.specs.descent.Steps.{second, unit_hole, unit_all, with_unit, with_group, with_all, term_hole}
+use Rattle.pbs_read.specs.descent.Steps.{seq_hole, expr_hole, with_name, close_round, close_square, close_group}
+use Rattle.pbs_read.specs.descent.Steps.{close_expr, end_unit, start_item, end_item, step, walk}
+use Rattle.pbs_read.specs.Refusals.{refusal}
+use Rattle.pbs_read.specs.descent.Reading.{is_too_deep, stepped, bind, read}
 
 -- ---- what is open
 

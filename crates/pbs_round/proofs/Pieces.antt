@@ -2,18 +2,14 @@
 use Rattle.std.proofs.Common.{◌≡◌, ℕ, zero, suc, ◌+◌, ◌-◌, ◌/◌, ◌%◌, ◌<◌, ◌≤◌, ◌^◌, List, [], ◌∷◌, ◌++◌, length, take}
 use Rattle.std.proofs.Common.{drop, Bool, true, false, nat_lt, Ok, refl, sym, ap, subst, ◌∙◌, append_assoc}
 use Rattle.std.proofs.Common.{length-append, arith}
-use Rattle.std.specs.Prelude.{◌&&◌, ◌||◌, ◌==◌, if◌then◌else◌, decimal}
-use Rattle.std.specs.List.{prefix_len}
-use Rattle.std.specs.Int.{IsInRange}
+use Rattle.std.specs.Prelude.{◌||◌, ◌==◌, decimal}
+use Rattle.std.specs.List.{prefix_len, list_all}
 use Rattle.std.proofs.lemmas.Bool.Decides.{nat_tests}
 use Rattle.std.proofs.lemmas.Fmt.{decimal_digit, length-decimal-le, decimal_nonempty, digits_decimal}
 use Rattle.std.proofs.lemmas.Fmt.{digits_value-decimal, decimal_step}
-use Rattle.std.proofs.lemmas.Str.Parse.{IsNumeralModel, IsDigitsTest, FoldsDigits, numerals_by_fold}
 use Rattle.pbs_base.specs.declared.refusal.Span.{Span}
 use Rattle.pbs_read.specs.declared.token.Token.{Token}
 use Rattle.pbs_read.specs.declared.token.TokenKind.{TokenKind}
-use Rattle.pbs_read.specs.declared.token.TokenKind.TheVariants as kind
-use Rattle.pbs_read.specs.declared.piece.Piece.TheVariants as piece
 use Rattle.pbs_read.specs.Grammar.{token, Numeral, ZeroNumeral, OneNumeral, TwoNumeral, DigitNumeral, LongNumeral}
 use Rattle.pbs_read.specs.Grammar.{numeral_kind}
 use Rattle.pbs_read.specs.Trees.{word_at, numeral_value}
@@ -23,6 +19,9 @@ use Rattle.pbs_read.specs.Lexing.{lex}
 use Rattle.pbs_read.proofs.Lexes.{lex-piece, lex-end}
 use Rattle.pbs_print.specs.Canonical.{bracketed}
 use Rattle.pbs_round.proofs.Nesting.{Opened, Round, closed, behind, is_over, Shallow}
+use Rattle.pbs_read.proofs.Found.{both, chosen, IsWord, word_byte, all_digits, IsSmall}
+use Rattle.pbs_read.specs.declared.token.TokenKind.TheVariants as kind
+use Rattle.pbs_read.specs.declared.piece.Piece.TheVariants as piece
 
 -- ---- pieces
 
@@ -45,29 +44,15 @@ text (p ∷ ps) = bytes_of p ++ text ps
 
 -- ---- bytes that pass a test
 
-abbrev pub all_pass : (ℕ → Bool) → List ℕ → Bool
-all_pass p [] = true
-all_pass p (b ∷ bs) = p b && all_pass p bs
-
 abbrev pub Stops : (ℕ → Bool) → List ℕ → Type 0
 Stops p [] = Unit {0}
 Stops p (b ∷ bs) = p b ≡ false
 
-pub both : (a b : Bool) → (a && b) ≡ true → (a ≡ true) × (b ≡ true)
-both true true e = (refl, refl)
-both true false e = absurd cc
-both false b e = absurd cc
-
-pub chosen : {A : Type 0} (S : A → Type 0) (c : Bool) (x y : A) → (c ≡ true → S x) → (c ≡ false → S y)
-    → S (if c then x else y)
-chosen S true x y f g = f refl
-chosen S false x y f g = g refl
-
-prefix-all : (p : ℕ → Bool) (w rest : List ℕ) → all_pass p w ≡ true → Stops p rest → prefix_len p (w ++ rest) ≡ length w
+prefix-all : (p : ℕ → Bool) (w rest : List ℕ) → list_all p w ≡ true → Stops p rest → prefix_len p (w ++ rest) ≡ length w
 prefix-all p [] [] h s = refl
 prefix-all p [] (b ∷ bs) h s = rw s refl
 prefix-all p (x ∷ w) rest h s =
-    let parts = both (p x) (all_pass p w) h in
+    let parts = both (p x) (list_all p w) h in
     let more : prefix_len p (w ++ rest) ≡ length w = prefix-all p w rest parts.1 s in
     rw (parts.0, more) (omega arith)
 
@@ -80,14 +65,6 @@ drop-front [] rest = refl
 drop-front (x ∷ w) rest = drop-front w rest
 
 -- ---- words
-
--- a word of this kind
-abbrev pub IsWord : List ℕ → TokenKind → Type 0
-IsWord [] k = ⊥
-IsWord (b ∷ w) k = (is_letter b ≡ true) × (all_pass is_word_byte w ≡ true) × (length w < 64) × (word_kind (b ∷ w) ≡ k)
-
-pub word_byte : (b : ℕ) → is_letter b ≡ true → is_word_byte b ≡ true
-word_byte b e = rw e refl
 
 no_space : (b : ℕ) → is_letter b ≡ true → is_space b ≡ false
 no_space b e = grind (arith, nat_tests)
@@ -102,7 +79,7 @@ word-first : (w : List ℕ) (k : TokenKind) (rest : List ℕ) → IsWord w k →
     → first_piece (w ++ rest) ≡ piece.Whole k (length w)
 word-first [] k rest h s = absurd h
 word-first (b ∷ w) k rest h s =
-    let all : all_pass is_word_byte (b ∷ w) ≡ true = rw (word_byte b h.0) h.1 in
+    let all : list_all is_word_byte (b ∷ w) ≡ true = rw (word_byte b h.0) h.1 in
     let n : prefix_len is_word_byte ((b ∷ w) ++ rest) ≡ length (b ∷ w) = prefix-all is_word_byte (b ∷ w) rest all s in
     let front : take (length (b ∷ w)) ((b ∷ w) ++ rest) ≡ b ∷ w = take-front (b ∷ w) rest in
     let l : List ℕ = b ∷ (w ++ rest) in
@@ -115,35 +92,16 @@ word-first (b ∷ w) k rest h s =
 
 -- ---- numbers
 
-in_range : (c : ℕ) → is_digit c ≡ true → IsInRange 48 57 c
-in_range c e = grind (arith, nat_tests)
-
-from_range : (c : ℕ) → IsInRange 48 57 c → is_digit c ≡ true
-from_range c r = grind (arith, nat_tests)
-
-pub all_digits : IsNumeralModel (λ ds. all_pass is_digit ds ≡ true) (decimal_from 0)
-all_digits = numerals_by_fold _ test decimal_from folds
-  where
-    test : IsDigitsTest (λ ds. all_pass is_digit ds ≡ true)
-    test = record {
-      empty = refl;
-      parts = λ c cs h. let p = both (is_digit c) (all_pass is_digit cs) h in (in_range c p.0, p.1);
-      more = λ c cs r h. rw (from_range c r, h) refl;
-    }
-
-    folds : FoldsDigits decimal_from
-    folds = record { empty = λ n. refl; more = λ n c cs h. refl }
-
 digit-first : (b : ℕ) → is_digit b ≡ true → (is_space b ≡ false) × (is_letter b ≡ false)
 digit-first b e = (grind (arith, nat_tests), grind (arith, nat_tests))
 
-digits-first : (ds rest : List ℕ) → all_pass is_digit ds ≡ true → 0 < length ds → length ds ≤ 9 → Stops is_digit rest
+digits-first : (ds rest : List ℕ) → list_all is_digit ds ≡ true → 0 < length ds → length ds ≤ 9 → Stops is_digit rest
     → first_piece (ds ++ rest) ≡ piece.Whole (number_kind ds) (length ds)
 digits-first [] rest all some few s = absurd (omega arith)
 digits-first (b ∷ ds) rest all some few s =
     let n : prefix_len is_digit ((b ∷ ds) ++ rest) ≡ length (b ∷ ds) = prefix-all is_digit (b ∷ ds) rest all s in
     let front : take (length (b ∷ ds)) ((b ∷ ds) ++ rest) ≡ b ∷ ds = take-front (b ∷ ds) rest in
-    let is = (both (is_digit b) (all_pass is_digit ds) all).0 in
+    let is = (both (is_digit b) (list_all is_digit ds) all).0 in
     let not = digit-first b is in
     let l : List ℕ = b ∷ (ds ++ rest) in
     let start : first_piece l ≡ number_piece l = rw (not.0, not.1, is) refl in
@@ -151,9 +109,6 @@ digits-first (b ∷ ds) rest all some few s =
     ∙ (ap (λ m. limited 9 (number_kind (take m l)) m) n
     ∙ (ap (λ v. limited 9 (number_kind v) (length (b ∷ ds))) front
     ∙ limited-short 9 (length (b ∷ ds)) (number_kind (b ∷ ds)) few))
-
-abbrev pub IsSmall : ℕ → Type 0
-IsSmall n = n < 1000000000
 
 machine : (n : ℕ) → IsSmall n → n < 2 ^ 64
 machine n h = omega arith

@@ -16,7 +16,7 @@ use Rattle.pbs_print.specs.Canonical.{is_joined}
 use Rattle.pbs_round.specs.Unspanned.{unspanned_term, unspanned_terms}
 use Rattle.pbs_round.proofs.Nesting.{Opened, Round, Waiting, closed, closed-twice}
 use Rattle.pbs_round.proofs.Pieces.{InBrackets}
-use Rattle.pbs_round.proofs.Found.{Proper, proper-number}
+use Rattle.pbs_round.proofs.Proper.{Proper, proper-number}
 use Rattle.pbs_round.proofs.Terms.{TermList, AllOf, AnyOf, wraps, TermIs, TermsAre}
 use Rattle.pbs_round.proofs.TermPhrases.{unspanned-row}
 

@@ -4,8 +4,8 @@ use Rattle.pbs_ast.specs.declared.syntax.Spec.{Spec}
 use Rattle.pbs_read.specs.declared.token.Token.{Token}
 use Rattle.pbs_read.specs.Grammar.{TextPhrase, OfVersion, text_tokens}
 use Rattle.pbs_read.specs.Trees.{text_spec}
-use Rattle.pbs_read.specs.Places.{Start, Whole}
-use Rattle.pbs_read.specs.Steps.{walk}
+use Rattle.pbs_read.specs.descent.Places.{Start, Whole}
+use Rattle.pbs_read.specs.descent.Steps.{walk}
 use Rattle.pbs_read.specs.Refusals.{IsRead, Says}
 use Rattle.pbs_read.specs.Lexing.{tokens}
 use Rattle.pbs_read.specs.Answers.{StandsFor}
@@ -16,7 +16,8 @@ use Rattle.pbs_print.specs.Canonical.{canonical}
 use Rattle.pbs_round.specs.Written.{IsWritten, ReadsBack}
 use Rattle.pbs_round.proofs.Nesting.{Shallow, text_shallow, shallow_text}
 use Rattle.pbs_round.proofs.Pieces.{text, placed, lex-text, Stands, stands, flat_shallow}
-use Rattle.pbs_round.proofs.Found.{tokens_found, Proper, are_proper}
+use Rattle.pbs_read.proofs.Found.{tokens_found}
+use Rattle.pbs_round.proofs.Proper.{Proper, are_proper}
 use Rattle.pbs_round.proofs.Lines.{spec_pieces, text-spec, SpecIs, spec-reads, spec-flat}
 use Rattle.pbs_round.proofs.LinesRead.{spec_is_read}
 use Rattle.pbs_round.proofs.LinePhrases.{finds_spec}

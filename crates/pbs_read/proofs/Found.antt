@@ -1,30 +1,81 @@
--- The names among the tokens of a text are words, and its digits are below nine.
-use Rattle.std.proofs.Common.{◌≡◌, ℕ, zero, suc, ◌+◌, ◌-◌, ◌<◌, List, [], ◌∷◌, ◌++◌, length, take, drop, Bool, true}
-use Rattle.std.proofs.Common.{false, nat_lt, Option, Some, None, Result, Ok, Err, refl, sym, subst, ap, ◌∙◌, arith}
-use Rattle.std.specs.Prelude.{◌==◌, codes}
+-- What the tokens of a text are: its names are words that aren't reserved, and its numbers are small.
+use Rattle.std.proofs.Common.{◌≡◌, ℕ, zero, suc, ◌+◌, ◌-◌, ◌<◌, ◌≤◌, List, [], ◌∷◌, ◌++◌, length, take, drop, Bool}
+use Rattle.std.proofs.Common.{true, false, nat_lt, Option, Some, None, Result, Ok, Err, refl, sym, subst, arith, ap, ◌∙◌}
+use Rattle.std.specs.Prelude.{if◌then◌else◌, ◌==◌, codes, ◌&&◌}
 use Rattle.std.specs.List.{prefix_len, list_all}
 use Rattle.std.specs.Str.{bytes_eq}
 use Rattle.std.proofs.lemmas.Bool.Decides.{nat_tests}
 use Rattle.std.proofs.lemmas.List.Folds.{length-prefix_len}
+use Rattle.std.proofs.lemmas.Str.Parse.{digits_value_short, IsNumeralModel, IsDigitsTest, FoldsDigits}
+use Rattle.std.proofs.lemmas.Str.Parse.{numerals_by_fold}
 use Rattle.pbs_base.specs.declared.refusal.Span.{Span}
 use Rattle.pbs_read.specs.declared.token.Token.{Token}
 use Rattle.pbs_read.specs.declared.token.TokenKind.{TokenKind}
-use Rattle.pbs_read.specs.declared.token.TokenKind.TheVariants as kind
-use Rattle.pbs_read.specs.declared.piece.Piece.TheVariants as piece
 use Rattle.pbs_read.specs.declared.piece.Piece.{Piece}
 use Rattle.pbs_read.specs.Grammar.{token}
 use Rattle.pbs_read.specs.Trees.{word_at}
 use Rattle.pbs_read.specs.Lexing.{is_space, is_digit, is_letter, is_word_byte, late_kind, word_kind, digit_kind}
-use Rattle.pbs_read.specs.Lexing.{number_kind, limited, bracket_piece, sign_piece, block_end, block_piece, slash_piece}
-use Rattle.pbs_read.specs.Lexing.{word_piece, number_piece, first_piece, with_token, with_piece, lex}
-use Rattle.pbs_emit.specs.NameWords.{IsWord}
-use Rattle.pbs_emit.proofs.Lists.{chosen, pick}
+use Rattle.pbs_read.specs.Lexing.{number_kind, limited, bracket_piece, sign_piece, block_end, block_piece}
+use Rattle.pbs_read.specs.Lexing.{slash_piece, word_piece, number_piece, first_piece, with_token, with_piece, lex}
+use Rattle.pbs_read.specs.Lexing.{decimal_from}
+use Rattle.std.specs.Int.{IsInRange}
+use Rattle.pbs_read.specs.declared.token.TokenKind.TheVariants as kind
+use Rattle.pbs_read.specs.declared.piece.Piece.TheVariants as piece
+
+-- ---- tests
+
+pub both : (a b : Bool) → (a && b) ≡ true → (a ≡ true) × (b ≡ true)
+both true true e = (refl, refl)
+both true false e = absurd cc
+both false b e = absurd cc
+
+pub chosen : {A : Type 0} (S : A → Type 0) (c : Bool) (x y : A) → (c ≡ true → S x) → (c ≡ false → S y)
+    → S (if c then x else y)
+chosen S true x y f g = f refl
+chosen S false x y f g = g refl
+
+pub pick : {A : Type 0} (S : A → Type 0) (c : Bool) (x y : A) → S x → S y → S (if c then x else y)
+pick S true x y f g = f
+pick S false x y f g = g
+
+-- ---- words and numbers
+
+-- a word of this kind
+abbrev pub IsWord : List ℕ → TokenKind → Type 0
+IsWord [] k = ⊥
+IsWord (b ∷ w) k = (is_letter b ≡ true) × (list_all is_word_byte w ≡ true) × (length w < 64) × (word_kind (b ∷ w) ≡ k)
+
+pub word_byte : (b : ℕ) → is_letter b ≡ true → is_word_byte b ≡ true
+word_byte b e = rw e refl
+
+in_range : (c : ℕ) → is_digit c ≡ true → IsInRange 48 57 c
+in_range c e = grind (arith, nat_tests)
+
+from_range : (c : ℕ) → IsInRange 48 57 c → is_digit c ≡ true
+from_range c r = grind (arith, nat_tests)
+
+pub all_digits : IsNumeralModel (λ ds. list_all is_digit ds ≡ true) (decimal_from 0)
+all_digits = numerals_by_fold _ test decimal_from folds
+  where
+    test : IsDigitsTest (λ ds. list_all is_digit ds ≡ true)
+    test = record {
+      empty = refl;
+      parts = λ c cs h. let p = both (is_digit c) (list_all is_digit cs) h in (in_range c p.0, p.1);
+      more = λ c cs r h. rw (from_range c r, h) refl;
+    }
+
+    folds : FoldsDigits decimal_from
+    folds = record { empty = λ n. refl; more = λ n c cs h. refl }
+
+abbrev pub IsSmall : ℕ → Type 0
+IsSmall n = n < 1000000000
 
 -- ---- what a token may be
 
 abbrev pub FoundAs : List ℕ → TokenKind → Type 0
-FoundAs w kind.Name = IsWord 64 w
-FoundAs w (kind.Digit n) = n < 9
+FoundAs w kind.Name = IsWord w kind.Name
+FoundAs w (kind.Digit n) = (2 < n) × (n < 9)
+FoundAs w (kind.Number n) = IsSmall n
 FoundAs w _ = Unit {0}
 
 abbrev pub AreFound : List ℕ → List Token → Type 0
@@ -67,21 +118,22 @@ slash-found l (b ∷ bs) = pick (PieceFound l) (b == 47) _ _ tt
 
 -- ---- words
 
-abbrev NoDigit : TokenKind → Type 0
-NoDigit (kind.Digit n) = ⊥
-NoDigit _ = Unit {0}
+abbrev NoNumber : TokenKind → Type 0
+NoNumber (kind.Digit n) = ⊥
+NoNumber (kind.Number n) = ⊥
+NoNumber _ = Unit {0}
 
-late-digit : (w : List ℕ) → NoDigit (late_kind w)
-late-digit w =
-    pick NoDigit (bytes_eq w (codes "main")) _ _ tt (pick NoDigit (bytes_eq w (codes "hold")) _ _ tt
-    (pick NoDigit (bytes_eq w (codes "try")) _ _ tt (pick NoDigit (bytes_eq w (codes "abort")) _ _ tt
-    (pick NoDigit (bytes_eq w (codes "then")) _ _ tt tt))))
+late-number : (w : List ℕ) → NoNumber (late_kind w)
+late-number w =
+    pick NoNumber (bytes_eq w (codes "main")) _ _ tt (pick NoNumber (bytes_eq w (codes "hold")) _ _ tt
+    (pick NoNumber (bytes_eq w (codes "try")) _ _ tt (pick NoNumber (bytes_eq w (codes "abort")) _ _ tt
+    (pick NoNumber (bytes_eq w (codes "then")) _ _ tt tt))))
 
-word-digit : (w : List ℕ) → NoDigit (word_kind w)
-word-digit w =
-    pick NoDigit (bytes_eq w (codes "spec")) _ _ tt (pick NoDigit (bytes_eq w (codes "input")) _ _ tt
-    (pick NoDigit (bytes_eq w (codes "action")) _ _ tt (pick NoDigit (bytes_eq w (codes "level")) _ _ tt
-    (pick NoDigit (bytes_eq w (codes "prod")) _ _ tt (late-digit w)))))
+word-number : (w : List ℕ) → NoNumber (word_kind w)
+word-number w =
+    pick NoNumber (bytes_eq w (codes "spec")) _ _ tt (pick NoNumber (bytes_eq w (codes "input")) _ _ tt
+    (pick NoNumber (bytes_eq w (codes "action")) _ _ tt (pick NoNumber (bytes_eq w (codes "level")) _ _ tt
+    (pick NoNumber (bytes_eq w (codes "prod")) _ _ tt (late-number w)))))
 
 longer : (p : ℕ → Bool) (b : ℕ) (bs : List ℕ) → p b ≡ true → prefix_len p (b ∷ bs) ≡ suc (prefix_len p bs)
 longer p b bs e = rw e (omega arith)
@@ -95,21 +147,15 @@ passed p (b ∷ bs) = by (p b) refl (passed p bs)
     by true e more = subst (λ n. list_all p (take n (b ∷ bs)) ≡ true) (sym (longer p b bs e)) (rw e more)
     by false e more = rw e refl
 
-word_byte : (b : ℕ) → is_letter b ≡ true → is_word_byte b ≡ true
-word_byte b e = rw e refl
-
 word-found : (b : ℕ) (w : List ℕ) → is_letter b ≡ true → list_all is_word_byte w ≡ true → length w < 64
     → FoundAs (b ∷ w) (word_kind (b ∷ w))
-word-found b w letter more short = by (word_kind (b ∷ w)) (word-digit (b ∷ w))
+word-found b w letter more short = by (word_kind (b ∷ w)) refl (word-number (b ∷ w))
   where
-    by : (k : TokenKind) → NoDigit k → FoundAs (b ∷ w) k
-    by kind.Name fine = record {
-      begins = letter;
-      bytes = rw (word_byte b letter) more;
-      short = omega arith;
-    }
-    by (kind.Digit n) fine = absurd fine
-    by _ fine = tt
+    by : (k : TokenKind) → word_kind (b ∷ w) ≡ k → NoNumber k → FoundAs (b ∷ w) k
+    by kind.Name e = λ no. (letter, more, short, e)
+    by (kind.Digit n) e = λ no. absurd no
+    by (kind.Number n) e = λ no. absurd no
+    by _ e = λ no. tt
 
 found-word : (b : ℕ) (bs : List ℕ) → is_letter b ≡ true → PieceFound (b ∷ bs) (word_piece (b ∷ bs))
 found-word b bs letter =
@@ -126,24 +172,32 @@ found-word b bs letter =
 
 -- ---- numbers
 
-digit-found : (ds : List ℕ) (d : ℕ) → FoundAs ds (digit_kind d)
-digit-found ds d =
-    pick (FoundAs ds) (d == 0) _ _ tt (pick (FoundAs ds) (d == 1) _ _ tt (pick (FoundAs ds) (d == 2) _ _ tt
-    (chosen (FoundAs ds) (nat_lt d 9) _ _ (λ e. low d e) (λ e. tt))))
+digit-found : (ds : List ℕ) (d : ℕ) → d ≤ 9 → FoundAs ds (digit_kind d)
+digit-found ds d low =
+    chosen (FoundAs ds) (d == 0) _ _ (λ _. tt) (λ a. chosen (FoundAs ds) (d == 1) _ _ (λ _. tt)
+    (λ b. chosen (FoundAs ds) (d == 2) _ _ (λ _. tt) (λ c. chosen (FoundAs ds) (nat_lt d 9) _ _
+    (λ e. middle d a b c e) (λ e. omega arith))))
   where
-    low : (d : ℕ) → nat_lt d 9 ≡ true → d < 9
-    low d e = grind (arith, nat_tests)
+    middle : (d : ℕ) → (d == 0) ≡ false → (d == 1) ≡ false → (d == 2) ≡ false → nat_lt d 9 ≡ true → (2 < d) × (d < 9)
+    middle d a b c e = (grind (arith, nat_tests), grind (arith, nat_tests))
 
-number-found : (l ds : List ℕ) → FoundAs l (number_kind ds)
-number-found l [] = tt
-number-found l (b ∷ []) = digit-found l (b - 48)
-number-found l (a ∷ b ∷ ds) = tt
+one_low : (b : ℕ) → is_digit b ≡ true → b - 48 ≤ 9
+one_low b e = grind (arith, nat_tests)
+
+number-found : (ds : List ℕ) → list_all is_digit ds ≡ true → length ds ≤ 9 → FoundAs ds (number_kind ds)
+number-found [] all few = omega arith
+number-found (b ∷ []) all few = digit-found (b ∷ []) (b - 48) (one_low b (both (is_digit b) true all).0)
+number-found (a ∷ b ∷ ds) all few = digits_value_short all_digits (a ∷ b ∷ ds) 9 all few
 
 found-number : (bs : List ℕ) → PieceFound bs (number_piece bs)
 found-number bs =
     let n : ℕ = prefix_len is_digit bs in
-    pick (PieceFound bs) (nat_lt 9 n) (piece.Fault n) (piece.Whole (number_kind (take n bs)) n) tt
-    (number-found (take n bs) (take n bs))
+    let len : length (take n bs) ≡ n = length-prefix_len is_digit bs in
+    chosen (PieceFound bs) (nat_lt 9 n) (piece.Fault n) (piece.Whole (number_kind (take n bs)) n) (λ _. tt)
+    (λ few. number-found (take n bs) (passed is_digit bs) (small n (length (take n bs)) len few))
+  where
+    small : (m k : ℕ) → k ≡ m → nat_lt 9 m ≡ false → k ≤ 9
+    small m k e h = grind (arith, nat_tests)
 
 piece-found : (b : ℕ) (bs : List ℕ) → PieceFound (b ∷ bs) (first_piece (b ∷ bs))
 piece-found b bs =

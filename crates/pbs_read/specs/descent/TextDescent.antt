@@ -12,14 +12,21 @@ use Rattle.pbs_read.specs.declared.token.Token.{Token}
 use Rattle.pbs_read.specs.declared.token.TokenKind.{TokenKind}
 use Rattle.pbs_read.specs.declared.token.TokenKind.TheVariants.{InputWord, ActionWord, LevelWord, ProdWord}
 use Rattle.pbs_read.specs.Bare.{bare_prod}
-use Rattle.pbs_read.specs.Grammar.{token, DeclPhrase, DeclsPhrase, ExprPhrase, TextPhrase}
+use Rattle.pbs_read.specs.Grammar.{token, DeclPhrase, DeclsPhrase, ExprPhrase, TextPhrase, OfVersion}
 use Rattle.pbs_read.specs.Trees.{Declared, nothing_declared, with_decl, declared_by, expr_tree, version_number}
 use Rattle.pbs_read.specs.Trees.{text_spec}
-use Rattle.pbs_read.specs.Places.{Front, FirstInput, FirstName, Place, Start, InDecls, WantsInput, WantsName}
-use Rattle.pbs_read.specs.Places.{AfterLevel, AfterProd}
-use Rattle.pbs_read.specs.Steps.{with_next, first_front, whole_spec}
-use Rattle.pbs_read.specs.Grammar.{OfVersion}
-use Rattle.pbs_read.specs.Reading.{read}
+use Rattle.pbs_read.specs.Holes.{Front}
+use Rattle.pbs_read.specs.descent.Places.{FirstInput, FirstName, Place, Start, InDecls, WantsInput, WantsName}
+use Rattle.pbs_read.specs.descent.Places.{AfterLevel, AfterProd}
+use Rattle.pbs_read.specs.descent.Steps.{with_next, first_front, whole_spec}
+use Rattle.pbs_read.specs.descent.Reading.{read}
+use Rattle.pbs_read.specs.Refusals.{refusal}
+use Rattle.pbs_read.specs.Lexing.{tokens}
+
+-- rule 2 is broken first at this span, unless memory ran out
+abbrev pub StopsLexing : List ℕ → ReadSpec → Type 0
+StopsLexing bytes Memory = Unit {0}
+StopsLexing bytes (Refused r) = (at : Span) × (r ≡ refusal 2 at) × (tokens bytes ≡ Err at)
 
 abbrev pub bare_lists : Lists → Declared
 bare_lists l = record { inputs = l.inputs; actions = l.actions; levels = l.levels; prods = map bare_prod l.prods }

@@ -3,25 +3,27 @@ use Rattle.std.specs.Prelude.{ℕ, ◌<◌, Bool, List, [], ◌∷◌, length, �
 use Rattle.pbs_base.specs.declared.refusal.Span.{Span}
 use Rattle.pbs_base.specs.declared.refusal.Refusal.{Refusal}
 use Rattle.pbs_ast.specs.declared.syntax.SpecTerm.{SpecTerm}
-use Rattle.pbs_ast.specs.declared.syntax.SpecTerm as node
 use Rattle.pbs_ast.specs.declared.syntax.Expr.{Expr}
 use Rattle.pbs_read.specs.Bare.{no_place}
-use Rattle.pbs_read.specs.declared.fail.ReadSpec.{ReadSpec}
-use Rattle.pbs_read.specs.declared.fail.ReadSpec.TheVariants.{Memory, Refused}
-use Rattle.pbs_read.specs.declared.token.Token.{Token}
-use Rattle.pbs_read.specs.declared.token.TokenKind.{TokenKind}
-use Rattle.pbs_read.specs.declared.token.TokenKind.TheVariants.{Star, Plus, Question}
 use Rattle.pbs_read.specs.Grammar.{token, Second, Numeral, numeral_kind, TermPhrase, OneAll, MoreAlls, SeqPhrase}
 use Rattle.pbs_read.specs.Grammar.{OneItem, MoreItems, Counted, ExprPhrase, OneSeq, MoreSeqs, PrimPhrase}
 use Rattle.pbs_read.specs.Trees.{numeral_value, unit_tree, all_tree, term_tree, all_items, term_items, seq_items}
 use Rattle.pbs_read.specs.Trees.{expr_items, group_tree, prim_tree, item_tree, seq_tree, expr_tree, group_extent}
 use Rattle.pbs_read.specs.Trees.{prim_extent, item_extent, seq_extent, expr_extent}
-use Rattle.pbs_read.specs.Places.{ExprHole, SeqHole, FirstSeq, NextSeq, ItemHole, FirstItem, NextItem, OfHold, TermHole}
-use Rattle.pbs_read.specs.Places.{AllHole, FirstAll, NextAll, FirstUnit, Place, WantsItem, WantsGroup, AfterHold}
-use Rattle.pbs_read.specs.Places.{AfterPrim, AfterItem, WantsLeast, WantsUnit, AfterUnit}
-use Rattle.pbs_read.specs.Steps.{with_unit, with_group}
-use Rattle.pbs_read.specs.Reading.{read, refusal, point, expr_nesting, seq_nesting, item_nesting, group_nesting}
-use Rattle.pbs_read.specs.Reading.{term_nesting, all_nesting, unit_nesting}
+use Rattle.pbs_read.specs.Holes.{ExprHole, SeqHole, FirstSeq, NextSeq, ItemHole, FirstItem, NextItem, OfHold}
+use Rattle.pbs_read.specs.Holes.{TermHole, AllHole, FirstAll, NextAll, FirstUnit, expr_nesting, seq_nesting}
+use Rattle.pbs_read.specs.Holes.{item_nesting, group_nesting, term_nesting, all_nesting, unit_nesting}
+use Rattle.pbs_read.specs.descent.Places.{Place, WantsItem, WantsGroup, AfterHold, AfterPrim, AfterItem, WantsLeast}
+use Rattle.pbs_read.specs.descent.Places.{WantsUnit, AfterUnit}
+use Rattle.pbs_read.specs.descent.Steps.{with_unit, with_group}
+use Rattle.pbs_read.specs.descent.Reading.{read}
+use Rattle.pbs_read.specs.Refusals.{refusal, point}
+use Rattle.pbs_read.specs.declared.fail.ReadSpec.{ReadSpec}
+use Rattle.pbs_read.specs.declared.fail.ReadSpec.TheVariants.{Memory, Refused}
+use Rattle.pbs_read.specs.declared.token.Token.{Token}
+use Rattle.pbs_read.specs.declared.token.TokenKind.{TokenKind}
+use Rattle.pbs_read.specs.declared.token.TokenKind.TheVariants.{Star, Plus, Question}
+use Rattle.pbs_ast.specs.declared.syntax.SpecTerm as node
 
 -- the first token is of this kind
 abbrev pub BeginsWith : TokenKind → List Token → Type 0

@@ -15,20 +15,22 @@ use Rattle.pbs_read.specs.Grammar.{Width, OneBit, TwoBits, MoreBits, UnitPhrase,
 use Rattle.pbs_read.specs.Grammar.{Compared, AllPhrase, OneUnit, MoreUnits, TermPhrase, OneAll, MoreAlls, ExprPhrase}
 use Rattle.pbs_read.specs.Grammar.{OneSeq, MoreSeqs, SeqPhrase, OneItem, MoreItems, ItemPhrase, Plain, Repeated}
 use Rattle.pbs_read.specs.Grammar.{Counted, PrimPhrase, Terminal, Action, Call, Grouped, Hold, Try, GroupPhrase}
-use Rattle.pbs_read.specs.Grammar.{EmptyGroup, FullGroup, InputPhrase, OneWire, Bus, InputsPhrase, OneInput, MoreInputs}
-use Rattle.pbs_read.specs.Grammar.{OneName, MoreNames, SetsPhrase, NoSets, MoreSets, DeclPhrase, InputDecl, ActionDecl}
-use Rattle.pbs_read.specs.Grammar.{LevelDecl, ProdDecl, NoDecls, MoreDecls, SpecPhrase, OfVersion}
-use Rattle.pbs_read.specs.Places.{Front, ExprHole, OfGroup, OfProd, OfMain, SeqHole, FirstSeq, NextSeq, ItemHole}
-use Rattle.pbs_read.specs.Places.{FirstItem, NextItem, GroupHole, AsPrim, OfHold, OfBody, OfTrap, OfAfter, TermHole}
-use Rattle.pbs_read.specs.Places.{OfTerminal, OfGuard, InRound, AllHole, FirstAll, NextAll, UnitHole, UnderNot}
-use Rattle.pbs_read.specs.Places.{FirstUnit, NextUnit, InputHole, FirstInput, NextInput, NameHole, FirstName, NextName}
-use Rattle.pbs_read.specs.Places.{LevelFront, Place, Start, AfterSpec, AfterVersion, InDecls, WantsInput}
-use Rattle.pbs_read.specs.Places.{AfterInputName, WantsWidth, AfterInput, WantsName, AfterName, AfterLevel}
-use Rattle.pbs_read.specs.Places.{AfterLevelName, AfterLevelEquals, AfterLevelBit, InLevel, AfterSetName, AfterSetColon}
-use Rattle.pbs_read.specs.Places.{AfterSetBit, AfterProd, AfterProdName, AfterMain, WantsItem, WantsGroup, InGroup}
-use Rattle.pbs_read.specs.Places.{InCurly, AfterActionName, AfterHold, AfterGuard, AfterBody, AfterTrap, AfterPrim}
-use Rattle.pbs_read.specs.Places.{WantsLeast, AfterLeast, WantsMost, AfterMost, AfterItem, WantsUnit, AfterUnitName}
-use Rattle.pbs_read.specs.Places.{WantsNumber, AfterUnit, Whole}
+use Rattle.pbs_read.specs.Grammar.{EmptyGroup, FullGroup, InputPhrase, OneWire, Bus, InputsPhrase, OneInput}
+use Rattle.pbs_read.specs.Grammar.{MoreInputs, OneName, MoreNames, SetsPhrase, NoSets, MoreSets, DeclPhrase}
+use Rattle.pbs_read.specs.Grammar.{InputDecl, ActionDecl, LevelDecl, ProdDecl, NoDecls, MoreDecls, SpecPhrase}
+use Rattle.pbs_read.specs.Grammar.{OfVersion}
+use Rattle.pbs_read.specs.Holes.{Front, ExprHole, OfGroup, OfProd, OfMain, SeqHole, FirstSeq, NextSeq, ItemHole}
+use Rattle.pbs_read.specs.Holes.{FirstItem, NextItem, GroupHole, AsPrim, OfHold, OfBody, OfTrap, OfAfter, TermHole}
+use Rattle.pbs_read.specs.Holes.{OfTerminal, OfGuard, InRound, AllHole, FirstAll, NextAll, UnitHole, UnderNot}
+use Rattle.pbs_read.specs.Holes.{FirstUnit, NextUnit}
+use Rattle.pbs_read.specs.descent.Places.{InputHole, FirstInput, NextInput, NameHole, FirstName, NextName, LevelFront}
+use Rattle.pbs_read.specs.descent.Places.{Place, Start, AfterSpec, AfterVersion, InDecls, WantsInput, AfterInputName}
+use Rattle.pbs_read.specs.descent.Places.{WantsWidth, AfterInput, WantsName, AfterName, AfterLevel, AfterLevelName}
+use Rattle.pbs_read.specs.descent.Places.{AfterLevelEquals, AfterLevelBit, InLevel, AfterSetName, AfterSetColon}
+use Rattle.pbs_read.specs.descent.Places.{AfterSetBit, AfterProd, AfterProdName, AfterMain, WantsItem, WantsGroup}
+use Rattle.pbs_read.specs.descent.Places.{InGroup, InCurly, AfterActionName, AfterHold, AfterGuard, AfterBody}
+use Rattle.pbs_read.specs.descent.Places.{AfterTrap, AfterPrim, WantsLeast, AfterLeast, WantsMost, AfterMost}
+use Rattle.pbs_read.specs.descent.Places.{AfterItem, WantsUnit, AfterUnitName, WantsNumber, AfterUnit, Whole}
 
 -- ---- kinds of tokens that belong together
 

@@ -11,10 +11,12 @@ use Rattle.pbs_read.specs.declared.token.Token.{Token}
 use Rattle.pbs_read.specs.Grammar.{token, bit_kind, InputPhrase, InputsPhrase, NamesPhrase, SetsPhrase, NoSets}
 use Rattle.pbs_read.specs.Grammar.{MoreSets, InputDecl, ActionDecl, LevelDecl, ProdDecl, ExprPhrase}
 use Rattle.pbs_read.specs.Trees.{declared, input_of, inputs_of, names_of, sets_of, expr_tree, word_at}
-use Rattle.pbs_read.specs.Places.{Front, InputHole, FirstInput, FirstName, LevelFront, InDecls, WantsInput}
-use Rattle.pbs_read.specs.Places.{AfterInputName, AfterInput, WantsName, AfterLevel, InLevel, AfterSetName, AfterProd}
-use Rattle.pbs_read.specs.Steps.{with_next, level_front}
-use Rattle.pbs_read.specs.Reading.{read}
+use Rattle.pbs_read.specs.Holes.{Front}
+use Rattle.pbs_read.specs.descent.Places.{InputHole, FirstInput, FirstName, LevelFront, InDecls, WantsInput}
+use Rattle.pbs_read.specs.descent.Places.{AfterInputName, AfterInput, WantsName, AfterLevel, InLevel, AfterSetName}
+use Rattle.pbs_read.specs.descent.Places.{AfterProd}
+use Rattle.pbs_read.specs.descent.Steps.{with_next, level_front}
+use Rattle.pbs_read.specs.descent.Reading.{read}
 
 -- a bit
 pub record TakesBit (old : List Token) (b : Bool) (new : List Token) : Type 0 where
