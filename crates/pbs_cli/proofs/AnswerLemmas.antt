@@ -95,14 +95,15 @@ refused_not_accepted k m text Usage w is = cc
 refused_not_accepted k m text ReadFault w is = cc
 refused_not_accepted k m text Memory w is = cc
 
-pub reads_more : (P Q : List ℕ → Refusal → Type 0) (a b : ShelfState) (name : List ℕ)
-    → ((text : List ℕ) (r : Refusal) → P text r → Q text r) → (result : First) → ReadsFirst P a b name result
-    → ReadsFirst Q a b name result
-reads_more P Q a b name f result w = record {
+pub reads_more : (P Q : List ℕ → Refusal → Type 0) (most : ℕ) (a b : ShelfState) (name : List ℕ)
+    → ((text : List ℕ) (r : Refusal) → P text r → Q text r) → (result : First) → ReadsFirst P most a b name result
+    → ReadsFirst Q most a b name result
+reads_more P Q most a b name f result w = record {
   goes_on = w.goes_on;
   other = w.other;
   gives = first_more P Q a b name f result w.gives;
   ended = w.ended;
+  few = w.few;
 }
 
 pub long_spec : (text : List ℕ) (r : Refusal) → IsTooLong Spec 1048576 text r → Breaks text r

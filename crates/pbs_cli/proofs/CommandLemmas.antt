@@ -1,5 +1,6 @@
 -- How the parts of a command make the command.
-use Rattle.std.proofs.Common.{◌≡◌, ◌≤◌, ℕ, true, List, [], ◌∷◌, ◌++◌, length, Some, refl, sym, ap, subst, ◌∙◌, arith}
+use Rattle.std.proofs.Common.{◌≡◌, ◌≤◌, ◌+◌, ℕ, true, List, [], ◌∷◌, ◌++◌, length, Some, refl, sym, ap, subst}
+use Rattle.std.proofs.Common.{◌∙◌, arith}
 use Rattle.std.specs.Option.{ForSome}
 use Rattle.std.specs.Io.KnownBytes.{IsAtEnd}
 use Rattle.pbs_base.specs.Outside.{ShelfState, SlotState, SinkState, NamedFile, GoesOn, has_file}
@@ -9,6 +10,7 @@ use Rattle.net_trace.specs.Endings.{WroteTaken}
 use Rattle.pbs_engine.specs.Load.{HasFailed}
 use Rattle.pbs_cli.specs.Words.{Command}
 use Rattle.pbs_cli.specs.Answers.{Answer, Task, Ends, Stopped, Defines, NeedsFiles, NeedsNoSecond, HasNeeded, trace_of}
+use Rattle.pbs_cli.specs.Answers.{first_of, first_most}
 use Rattle.pbs_cli.specs.Answers.{DueRows, ReadToEnd, command_task}
 use Rattle.pbs_cli.specs.Parts.{EndsAlone, EndsRun, EndsCommand}
 use Rattle.pbs_cli.proofs.AnswerLemmas.{nothing_written, wrote_more, cut_more}
@@ -28,7 +30,7 @@ took_little text slot now same = record {
   little = λ header behind is none. no_bytes header behind is;
 }
 
-pub took_few : (text : List ℕ) (slot now : SlotState) → now ≡ slot → TakesAtMost 67108865 text slot now
+pub took_few : {most : ℕ} (text : List ℕ) (slot now : SlotState) → now ≡ slot → TakesAtMost most text slot now
 took_few text slot now same = record { taken = []; took = Untouched same; few = omega arith }
 
 wrote_nothing : (due : List ℕ → List ℕ → Type 0) (text : List ℕ) (slot now : SlotState) (sink : SinkState)
@@ -105,16 +107,22 @@ module _ {A : Type 0} (T U : Task A) (part : IsPart T U) (a b c : ShelfState) (k
 
 -- ---- commands
 
+-- how much of the first file was taken
+abbrev pub FirstFew : Command → ShelfState → ShelfState → Type 0
+FirstFew command a b = ForSome a.files (λ files.
+    TakesAtMost (first_most command + 1) (first_of command files) (a.slots 0) (b.slots 0))
+
 -- the first file is all that was read
 pub settled : (command : Command) (defines : Answer → Type 0) (a b : ShelfState) (k m : SinkState) (status : Status)
-    → b.slots 1 ≡ a.slots 1 → (status ≡ Accepted → ReadToEnd command b)
+    → b.slots 1 ≡ a.slots 1 → FirstFew command a b → (status ≡ Accepted → ReadToEnd command b)
     → ForSome a.files (λ files. (answer : Answer) → defines answer → Defines command files answer)
     → EndsAlone defines k m status → EndsCommand command a b k m status
-settled command defines a b k m status other ended more e = record {
+settled command defines a b k m status other first ended more e = record {
   ends = by_status status e;
   ended = ended;
   second = λ files told none. other;
   few = λ files told. took_few (trace_of command files) (a.slots 1) (b.slots 1) other;
+  first = first;
 }
   where
     by_status : (status : Status) → EndsAlone defines k m status → Ends (command_task command a) a b k m status
@@ -129,9 +137,9 @@ settled command defines a b k m status other ended more e = record {
 
 -- the first file wasn't read
 pub failed : (command : Command) (name : List ℕ) (a b : ShelfState) (k : SinkState) → b.slots 1 ≡ a.slots 1
-    → NeedsFiles command → ((files : List NamedFile) → HasNeeded command files → has_file files name ≡ true)
-    → HasFailed a b name → EndsCommand command a b k k ReadFault
-failed command name a b k other needed has fault = record {
+    → FirstFew command a b → NeedsFiles command
+    → ((files : List NamedFile) → HasNeeded command files → has_file files name ≡ true) → HasFailed a b name → EndsCommand command a b k k ReadFault
+failed command name a b k other first needed has fault = record {
   ends = (
     record {
       needed = needed;
@@ -146,24 +154,28 @@ failed command name a b k other needed has fault = record {
   ended = λ is. absurd (cc);
   second = λ files told none. other;
   few = λ files told. took_few (trace_of command files) (a.slots 1) (b.slots 1) other;
+  first = first;
 }
 
 pub no_memory : (command : Command) (a b : ShelfState) (k : SinkState) → b.slots 1 ≡ a.slots 1
-    → EndsCommand command a b k k Memory
-no_memory command a b k other =
-    settled command (λ answer. ⊥) a b k k Memory other (λ is. absurd (cc)) (λ files told answer none. absurd none) refl
+    → FirstFew command a b → EndsCommand command a b k k Memory
+no_memory command a b k other first =
+    settled command (λ answer. ⊥) a b k k Memory other first (λ is. absurd (cc))
+    (λ files told answer none. absurd none) refl
 
 -- the first file was read, and then a trace was run on
 pub went_on : (command : Command) (T : Task (List NamedFile)) (refused : Type 0) (a b c : ShelfState) (k m : SinkState)
-    (status : Status) → GoesOn a b → b.slots 1 ≡ a.slots 1 → IsPart T (command_task command a)
+    (status : Status) → GoesOn a b → b.slots 1 ≡ a.slots 1 → FirstFew command a b → IsPart T (command_task command a)
     → ForSome a.files (λ files. NeedsNoSecond command files → refused) → IsAtEnd (b.slots 0).left
     → (IsAtEnd (c.slots 0).left × IsAtEnd (c.slots 1).left → ReadToEnd command c) → EndsRun T refused b c k m status
     → EndsCommand command a c k m status
-went_on command T refused a b c k m status goes_on other part none first both run = record {
+went_on command T refused a b c k m status goes_on other taken part none first both run = record {
   ends = ends_more T (command_task command a) part a b c k m goes_on other status run.ends;
   ended = λ is. both (subst (λ (s : SlotState). IsAtEnd s.left) (sym run.other) first, run.ended is);
   second = λ files told no. ap (λ (s : ShelfState). s.slots 1) (run.untouched (none files told no)) ∙ other;
   few = λ files told.
       few_more T (command_task command a) part a b c k m goes_on other files told
       (run.few files (part.told files told));
+  first = λ files told. subst (λ o.
+      TakesAtMost (first_most command + 1) (first_of command files) (a.slots 0) o) (sym run.other) (taken files told);
 }

@@ -7,9 +7,9 @@ use Rattle.pbs_cli.specs.Words.{Command}
 use Rattle.pbs_cli.specs.Words as words
 use Rattle.pbs_cli.specs.Status.{code_of}
 use Rattle.net_trace.specs.Taken.{TakesAtMost}
-use Rattle.pbs_cli.specs.Answers.{Wrote, Defines, NeedsNoSecond, ReadToEnd, trace_of}
+use Rattle.pbs_cli.specs.Answers.{Wrote, Defines, NeedsNoSecond, ReadToEnd, first_of, trace_of}
 use Rattle.pbs_cli.specs.Parts.{EndsCommand}
-use Rattle.pbs_cli.proofs.CommandLemmas.{took_few}
+use Rattle.pbs_cli.proofs.CommandLemmas.{FirstFew, took_few}
 use Rattle.pbs_cli.specs.declared.status.Status.{Status}
 use Rattle.pbs_cli.specs.declared.status.Status.TheVariants.{Accepted, Refused, Usage, ReadFault, WriteFault, Memory}
 
@@ -54,6 +54,13 @@ few command s n k m status same ends =
     ForSome s.files (λ files. TakesAtMost 67108865 (trace_of command files) (s.slots 1) (x.slots 1)) in
     kept P command s n k m status same ends
     (λ files told. took_few (trace_of command files) (s.slots 1) (s.slots 1) refl) (λ e. e.few)
+
+pub first : (command : Command) (s n : ShelfState) (k m : SinkState) (status : Status) → (status ≡ Usage → n ≡ s)
+    → (status ≢ Usage → EndsCommand command s n k m status) → FirstFew command s n
+first command s n k m status same ends =
+    let P : ShelfState → Type 0 = λ x. FirstFew command s x in
+    kept P command s n k m status same ends
+    (λ files told. took_few (first_of command files) (s.slots 0) (s.slots 0) refl) (λ e. e.first)
 
 pub second : (command : Command) (s n : ShelfState) (k m : SinkState) (status : Status) → (status ≡ Usage → n ≡ s)
     → (status ≢ Usage → EndsCommand command s n k m status)

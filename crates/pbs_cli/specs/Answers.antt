@@ -99,7 +99,22 @@ ReadToEnd (Sim netlist trace) shelf = IsAtEnd (shelf.slots 0).left × IsAtEnd (s
 ReadToEnd (Trace spec trace) shelf = IsAtEnd (shelf.slots 0).left × IsAtEnd (shelf.slots 1).left
 ReadToEnd Usage shelf = ⊤
 
--- ---- the trace of a command
+-- ---- the files of a command
+
+-- the text of the first file, and the most bytes that it may have
+abbrev pub first_of : Command → List NamedFile → List ℕ
+first_of (Check spec) files = content_of files spec
+first_of (Compile spec) files = content_of files spec
+first_of (Sim netlist trace) files = content_of files netlist
+first_of (Trace spec trace) files = content_of files spec
+first_of Usage files = []
+
+abbrev pub first_most : Command → ℕ
+first_most (Check spec) = 1048576
+first_most (Compile spec) = 1048576
+first_most (Sim netlist trace) = 67108864
+first_most (Trace spec trace) = 1048576
+first_most Usage = 0
 
 -- the text of the trace, none where the command has no trace
 abbrev pub trace_of : Command → List NamedFile → List ℕ

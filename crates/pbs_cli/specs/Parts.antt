@@ -19,7 +19,8 @@ use Rattle.pbs_engine.specs.Outcomes.{FiredRows}
 use Rattle.pbs_engine.specs.Load.{HasFailed}
 use Rattle.pbs_cli.specs.Words.{Command}
 use Rattle.pbs_cli.specs.Answers.{Answer, ended, Traces, Simulates, SimulatedRows, Wrote, CutShort, Task, Ends}
-use Rattle.pbs_cli.specs.Answers.{NeedsNoSecond, ReadToEnd, trace_of, command_task}
+use Rattle.pbs_cli.specs.Answers.{NeedsNoSecond, ReadToEnd, first_of, first_most, trace_of}
+use Rattle.pbs_cli.specs.Answers.{command_task}
 use Rattle.pbs_cli.specs.declared.first.First.{First}
 use Rattle.pbs_cli.specs.declared.first.First.TheVariants as first
 use Rattle.pbs_cli.specs.declared.status.Status.{Status}
@@ -49,13 +50,15 @@ FirstEnds now (first.Refused r) = ⊤
 FirstEnds now first.Fault = ⊤
 FirstEnds now first.Memory = ⊤
 
--- the named file was read in slot 0, or is refused so for its length
-pub record ReadsFirst (refuses : List ℕ → Refusal → Type 0) (before now : ShelfState) (name : List ℕ) (result : First) :
-    Type 0 where
+-- the named file, of at most so many bytes, was read in slot 0, or is refused so for its length
+pub record ReadsFirst (refuses : List ℕ → Refusal → Type 0) (most : ℕ) (before now : ShelfState) (name : List ℕ)
+    (result : First) : Type 0 where
   pub goes_on : GoesOn before now
   pub other : now.slots 1 ≡ before.slots 1
   pub gives : FirstGives refuses before now name result
   pub ended : FirstEnds now result
+  pub few : ForSome before.files (λ files.
+      TakesAtMost (most + 1) (content_of files name) (before.slots 0) (now.slots 0))
 
 -- ---- what is written
 
@@ -147,3 +150,5 @@ pub record EndsCommand (command : Command) (shelf shelf_now : ShelfState) (sink 
   pub second : ForSome shelf.files (λ files. NeedsNoSecond command files → shelf_now.slots 1 ≡ shelf.slots 1)
   pub few : ForSome shelf.files (λ files.
       TakesAtMost 67108865 (trace_of command files) (shelf.slots 1) (shelf_now.slots 1))
+  pub first : ForSome shelf.files (λ files.
+      TakesAtMost (first_most command + 1) (first_of command files) (shelf.slots 0) (shelf_now.slots 0))

@@ -52,7 +52,7 @@ fn read_first<S: Shelf>(
     limit: u32,
 ) -> First
     requires { limit < 1073741824 }
-    ensures { ReadsFirst (IsTooLong subject limit) (S.state shelf.old) (S.state shelf.new) name.now result }
+    ensures { ReadsFirst (IsTooLong subject limit) limit (S.state shelf.old) (S.state shelf.new) name.now result }
 {
     match load(alloc, shelf, 0, name, limit as usize) {
         Ok(bytes) => First::Text(bytes),
@@ -64,14 +64,14 @@ fn read_first<S: Shelf>(
 
 /// Reads the specification, in slot 0.
 pub(crate) fn read_spec<S: Shelf>(alloc: Global, shelf: &mut S, name: &str) -> First
-    ensures { ReadsFirst Breaks (S.state shelf.old) (S.state shelf.new) name.now result }
+    ensures { ReadsFirst Breaks 1048576 (S.state shelf.old) (S.state shelf.new) name.now result }
 {
     read_first(alloc, shelf, name, Subject::Spec, SPEC_BYTES)
 }
 
 /// Reads the netlist, in slot 0.
 pub(crate) fn read_verilog<S: Shelf>(alloc: Global, shelf: &mut S, name: &str) -> First
-    ensures { ReadsFirst IsRefusedBy (S.state shelf.old) (S.state shelf.new) name.now result }
+    ensures { ReadsFirst IsRefusedBy 67108864 (S.state shelf.old) (S.state shelf.new) name.now result }
 {
     read_first(alloc, shelf, name, Subject::Netlist, NETLIST_BYTES)
 }

@@ -1,12 +1,12 @@
 // The top call.
-ghost use Rattle.std.specs.Prelude.{◌≡◌, ◌↔◌, ◌<◌, ◌≤◌, ◌⊎◌, ◌≢◌, true};
+ghost use Rattle.std.specs.Prelude.{◌≡◌, ◌↔◌, ◌+◌, ◌<◌, ◌≤◌, ◌⊎◌, ◌≢◌, true};
 ghost use Rattle.std.specs.Option.{ForSome};
 ghost use Rattle.pbs_base.specs.Outside.{Rose};
 ghost use Rattle.pbs_cli.specs.Words.{command_of, texts, Usage};
 ghost use Rattle.net_trace.specs.Endings.{WroteTaken};
 ghost use Rattle.net_trace.specs.Taken.{Stops, TakesAtMost, TakesLittle};
 ghost use Rattle.pbs_cli.specs.Answers.{Wrote, CutShort, Defines, NeedsFiles, NeedsNoSecond, HasNeeded};
-ghost use Rattle.pbs_cli.specs.Answers.{DueRows, ReadToEnd, trace_of};
+ghost use Rattle.pbs_cli.specs.Answers.{DueRows, ReadToEnd, first_of, first_most, trace_of};
 ghost use Rattle.pbs_cli.specs.Parts.{EndsCommand};
 ghost use Rattle.pbs_cli.specs.declared.status.Status.TheVariants as status;
 
@@ -62,6 +62,12 @@ pub fn run<S: Shelf, K: Sink>(alloc: Global, words: &[String], shelf: &mut S, ou
     ensures little { result ≡ 5 → ForSome (S.state shelf.old).files (λ files.
         TakesLittle (trace_of (command_of (texts words.now)) files)
         ((S.state shelf.old).slots 1) ((S.state shelf.new).slots 1)) }
+
+    // At most one byte more of the first file was taken than it may have: 1,048,577 of a specification, and 67,108,865
+    // of a netlist.
+    ensures first { ForSome (S.state shelf.old).files (λ files.
+        TakesAtMost (first_most (command_of (texts words.now)) + 1) (first_of (command_of (texts words.now)) files)
+        ((S.state shelf.old).slots 0) ((S.state shelf.new).slots 0)) }
 
     // At most 67,108,865 bytes of the trace were taken, and none where the words have no trace.
     ensures few { ForSome (S.state shelf.old).files (λ files.

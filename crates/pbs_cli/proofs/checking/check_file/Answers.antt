@@ -10,7 +10,7 @@ pub returns-in-Text : goal.returns-in-Text
 returns-in-Text g c =
     settled (Check c.args.spec.now) (Checks c.in-Text.bytes.items) (g.S.Shelf.state c.args.shelf.now)
     (g.S.Shelf.state c.read_spec.new.shelf) (g.K.Sink.state c.args.out.now) (g.K.Sink.state c.check_text.new.out)
-    c.check_text.result c.in-Text.ensures.other (λ _. c.in-Text.ensures.ended)
+    c.check_text.result c.in-Text.ensures.other c.in-Text.ensures.few (λ _. c.in-Text.ensures.ended)
     (λ files told answer is. subst (λ l. Checks l answer) (c.in-Text.ensures.gives files told) is)
     (rw c.as_slice.ensures.value at c.check_text.ensures)
 
@@ -18,7 +18,8 @@ pub returns-in-Refused : goal.returns-in-Refused
 returns-in-Refused g c =
     let one : Answer → Type 0 = λ answer. answer ≡ refused c.in-Refused.refusal in
     settled (Check c.args.spec.now) one (g.S.Shelf.state c.args.shelf.now) (g.S.Shelf.state c.read_spec.new.shelf)
-    (g.K.Sink.state c.args.out.now) (g.K.Sink.state c.refuse.new.out) c.refuse.result c.in-Refused.ensures.other
+    (g.K.Sink.state c.args.out.now) (g.K.Sink.state c.refuse.new.out) c.refuse.result
+    c.in-Refused.ensures.other c.in-Refused.ensures.few
     (λ is. absurd (refused_not_accepted (g.K.Sink.state c.args.out.now) (g.K.Sink.state c.refuse.new.out)
     (refusal_line c.in-Refused.refusal) c.refuse.result c.refuse.ensures is))
     (λ files told answer is. subst (Checks _) (sym is) (OnBroken (c.in-Refused.ensures.gives files told)))
@@ -28,10 +29,11 @@ returns-in-Refused g c =
 pub returns-in-Fault : goal.returns-in-Fault
 returns-in-Fault g c =
     failed (Check c.args.spec.now) c.args.spec.now (g.S.Shelf.state c.args.shelf.now)
-    (g.S.Shelf.state c.read_spec.new.shelf) (g.K.Sink.state c.args.out.now) c.in-Fault.ensures.other tt
+    (g.S.Shelf.state c.read_spec.new.shelf) (g.K.Sink.state c.args.out.now)
+    c.in-Fault.ensures.other c.in-Fault.ensures.few tt
     (λ files has. has) c.in-Fault.ensures.gives
 
 pub returns-in-Memory : goal.returns-in-Memory
 returns-in-Memory g c =
     no_memory (Check c.args.spec.now) (g.S.Shelf.state c.args.shelf.now) (g.S.Shelf.state c.read_spec.new.shelf)
-    (g.K.Sink.state c.args.out.now) c.in-Memory.ensures.other
+    (g.K.Sink.state c.args.out.now) c.in-Memory.ensures.other c.in-Memory.ensures.few

@@ -12,4 +12,5 @@ returns-in-Err-TooLong g c =
       other = loaded.other;
       gives = λ files told. (loaded.gives files told, c.too_long.ensures);
       ended = tt;
+      few = loaded.few;
     }

@@ -6,5 +6,5 @@ use Rattle.pbs_cli.proofs.first.read_spec.Goals as goal
 
 pub returns : goal.returns
 returns g c =
-    reads_more (IsTooLong Spec 1048576) Breaks (g.S.Shelf.state c.args.shelf.now)
+    reads_more (IsTooLong Spec 1048576) Breaks 1048576 (g.S.Shelf.state c.args.shelf.now)
     (g.S.Shelf.state c.read_first.new.shelf) c.args.name.now long_spec c.read_first.result c.read_first.ensures

@@ -6,5 +6,5 @@ use Rattle.pbs_cli.proofs.first.read_verilog.Goals as goal
 
 pub returns : goal.returns
 returns g c =
-    reads_more (IsTooLong Netlist 67108864) IsRefusedBy (g.S.Shelf.state c.args.shelf.now)
+    reads_more (IsTooLong Netlist 67108864) IsRefusedBy 67108864 (g.S.Shelf.state c.args.shelf.now)
     (g.S.Shelf.state c.read_first.new.shelf) c.args.name.now long_netlist c.read_first.result c.read_first.ensures

@@ -20,7 +20,7 @@ returns-in-Text g c =
     (trace_answers text c.args.name.now (g.S.Shelf.state c.read_spec.new.shelf))
     ((r : Refusal) × IsNotRun text r) (g.S.Shelf.state c.args.shelf.now) (g.S.Shelf.state c.read_spec.new.shelf)
     (g.S.Shelf.state c.trace_text.new.shelf) (g.K.Sink.state c.args.out.now) (g.K.Sink.state c.trace_text.new.out)
-    c.trace_text.result read.goes_on read.other
+    c.trace_text.result read.goes_on read.other read.few
     (trace_command c.args.spec.now c.args.name.now text (g.S.Shelf.state c.args.shelf.now)
     (g.S.Shelf.state c.read_spec.new.shelf) read.goes_on read.gives)
     (λ files told none. (none.0, subst (λ l. IsNotRun l none.0) (sym (read.gives files told)) none.1))
@@ -32,7 +32,8 @@ returns-in-Refused g c =
     let one : Answer → Type 0 = λ answer. answer ≡ refused c.in-Refused.refusal in
     let command = Trace c.args.spec.now c.args.name.now in
     settled command one (g.S.Shelf.state c.args.shelf.now) (g.S.Shelf.state c.read_spec.new.shelf)
-    (g.K.Sink.state c.args.out.now) (g.K.Sink.state c.refuse.new.out) c.refuse.result c.in-Refused.ensures.other
+    (g.K.Sink.state c.args.out.now) (g.K.Sink.state c.refuse.new.out) c.refuse.result
+    c.in-Refused.ensures.other c.in-Refused.ensures.few
     (λ is. absurd (refused_not_accepted (g.K.Sink.state c.args.out.now) (g.K.Sink.state c.refuse.new.out)
     (refusal_line c.in-Refused.refusal) c.refuse.result c.refuse.ensures is))
     (λ files told answer is. subst (Defines command files) (sym is)
@@ -44,10 +45,12 @@ returns-in-Refused g c =
 pub returns-in-Fault : goal.returns-in-Fault
 returns-in-Fault g c =
     failed (Trace c.args.spec.now c.args.name.now) c.args.spec.now (g.S.Shelf.state c.args.shelf.now)
-    (g.S.Shelf.state c.read_spec.new.shelf) (g.K.Sink.state c.args.out.now) c.in-Fault.ensures.other tt
+    (g.S.Shelf.state c.read_spec.new.shelf) (g.K.Sink.state c.args.out.now)
+    c.in-Fault.ensures.other c.in-Fault.ensures.few tt
     (λ files has. has.0) c.in-Fault.ensures.gives
 
 pub returns-in-Memory : goal.returns-in-Memory
 returns-in-Memory g c =
     no_memory (Trace c.args.spec.now c.args.name.now) (g.S.Shelf.state c.args.shelf.now)
-    (g.S.Shelf.state c.read_spec.new.shelf) (g.K.Sink.state c.args.out.now) c.in-Memory.ensures.other
+    (g.S.Shelf.state c.read_spec.new.shelf) (g.K.Sink.state c.args.out.now)
+    c.in-Memory.ensures.other c.in-Memory.ensures.few
