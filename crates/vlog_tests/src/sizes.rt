@@ -31,44 +31,33 @@ fn nested(alloc: Global, open: &[u8], close: &[u8], times: usize) -> Result<Vec<
 }
 
 #[test]
-fn names_and_nesting(rt: HostRuntime) -> Result<(), Fail> {
+fn names(rt: HostRuntime) -> Result<(), Fail> {
     let alloc = rt.alloc();
-    read(alloc, long_name(alloc, 255)?.as_slice())?;
-    assert!(rt; is_refused(alloc, long_name(alloc, 256)?.as_slice(), 2, 55, 311));
-    read(alloc, nested(alloc, b"(", b")", 64)?.as_slice())?;
-    assert!(rt;
-        is_refused(
-            alloc,
-            nested(alloc, b"(", b")", 65)?.as_slice(),
-            3,
-            125,
-            126
-        )
-    );
-    read(alloc, nested(alloc, b"~(", b")", 32)?.as_slice())?;
-    assert!(rt;
-        is_refused(
-            alloc,
-            nested(alloc, b"~(", b")", 33)?.as_slice(),
-            3,
-            125,
-            126
-        )
-    );
-    assert!(rt;
-        is_refused(
-            alloc,
-            nested(alloc, b"(~", b")", 40)?.as_slice(),
-            3,
-            125,
-            126
-        )
-    );
-    read(alloc, nested(alloc, b"~rst | ", b"", 70)?.as_slice())?;
-    read(
-        alloc,
-        nested(alloc, b"(rst) ^ ", b" & (1'b1)", 70)?.as_slice(),
-    )?;
+    let longest = long_name(alloc, 255)?;
+    read(alloc, longest.as_slice())?;
+    let longer = long_name(alloc, 256)?;
+    assert!(rt; is_refused(alloc, longer.as_slice(), 2, 55, 311));
+    Ok(())
+}
+
+#[test]
+fn nesting(rt: HostRuntime) -> Result<(), Fail> {
+    let alloc = rt.alloc();
+    let flat: [(&[u8], &[u8], usize); 4] = [
+        (b"(", b")", 64),
+        (b"~(", b")", 32),
+        (b"~rst | ", b"", 70),
+        (b"(rst) ^ ", b" & (1'b1)", 70),
+    ];
+    for (open, close, times) in flat {
+        let text = nested(alloc, open, close, times)?;
+        read(alloc, text.as_slice())?;
+    }
+    let deep: [(&[u8], &[u8], usize); 3] = [(b"(", b")", 65), (b"~(", b")", 33), (b"(~", b")", 40)];
+    for (open, close, times) in deep {
+        let text = nested(alloc, open, close, times)?;
+        assert!(rt; is_refused(alloc, text.as_slice(), 3, 125, 126));
+    }
     Ok(())
 }
 
