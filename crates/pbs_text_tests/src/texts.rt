@@ -1,7 +1,8 @@
 // Texts, and what reading them answers.
 use pbs_base::{Refusal, Span, Subject};
 use pbs_print::print_spec;
-use pbs_read::{ReadSpec, read_spec};
+use pbs_read::read_spec;
+use pbs_text::ReadSpec;
 use std::alloc::Global;
 use std::test::Fail;
 
