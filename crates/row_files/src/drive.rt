@@ -32,7 +32,7 @@ impl From<Memory> for DriveFail {
 /// be read or no memory is found.
 pub fn run_files<S: Subject>(rt: &HostRuntime, subject: &S) -> ExitCode {
     match try_files(rt, subject) {
-        Ok(tally) => ExitCode::from(if tally.differ == 0 { 0 } else { 1 }),
+        Ok(tally) => ExitCode::from(tally.status()),
         Err(DriveFail::Malformed { file, line }) => {
             let _ = eprintln!(rt; "{file}:{line}: this line can't stand here");
             ExitCode::from(2)

@@ -1,4 +1,6 @@
 // Why rows are not read.
+ghost use Rattle.std.specs.Prelude.{ℕ, ◌≤◌};
+
 use std::alloc::{AllocError, AllocFailed};
 use thiserror::Error;
 
@@ -20,7 +22,12 @@ pub(crate) enum LineFail {
 }
 
 impl LineFail {
-    pub(crate) fn at(self, line: usize) -> RowsFail {
+    ghost use Rattle.row_files.specs.Lines.{NamesLineOf};
+
+    /// The failure at the line with this number.
+    pub(crate) fn at(self, line: usize) -> RowsFail
+        ensures { (count : ℕ) → 1 ≤ line → line ≤ count → NamesLineOf count result }
+    {
         match self {
             LineFail::Malformed => RowsFail::Malformed { line },
             LineFail::Memory => RowsFail::Memory,

@@ -1,4 +1,7 @@
 // Lines of text: docs/ROWS.md, "Text lines".
+ghost use Rattle.std.specs.Prelude.{◌≡◌, ◌≤◌, ◌++◌, length, slice_range, OnOk};
+ghost use Rattle.row_files.specs.Texts.{times};
+
 use crate::fail::LineFail;
 use crate::numbers::{count, hex_byte};
 use crate::row::NamedText;
@@ -28,16 +31,18 @@ pub(crate) fn add_line(
     if key != "*" {
         return add_once(out, texts, line);
     }
-    let (times, part) = split_key(rest);
-    let times = count(times)?;
+    let (number, part) = split_key(rest);
+    let times = count(number)?;
     let mut bytes = Vec::new(alloc);
     add_once(&mut bytes, texts, part)?;
     add_times(out, bytes.as_slice(), times)
 }
 
 // Adds the bytes so many times.
-fn add_times(out: &mut Vec<u8>, bytes: &[u8], times: usize) -> Result<(), LineFail> {
-    for _ in 0..times {
+fn add_times(out: &mut Vec<u8>, bytes: &[u8], count: usize) -> Result<(), LineFail>
+    ensures { OnOk result (out.new.items ≡ out.old.items ++ times count bytes.now) }
+{
+    for _done in 0..count {
         out.extend_from_slice(bytes)?;
     }
     Ok(())
@@ -88,7 +93,10 @@ fn add_named(out: &mut Vec<u8>, texts: &[NamedText], words: &str) -> Result<(), 
 }
 
 // Adds the bytes from one place up to and not another.
-fn add_range(out: &mut Vec<u8>, bytes: &[u8], from: usize, to: usize) -> Result<(), LineFail> {
+fn add_range(out: &mut Vec<u8>, bytes: &[u8], from: usize, to: usize) -> Result<(), LineFail>
+    ensures added { OnOk result (out.new.items ≡ out.old.items ++ slice_range bytes.now from to) }
+    ensures within { OnOk result ((from ≤ to) × (to ≤ length bytes.now)) }
+{
     if from > to || to > bytes.len() {
         return Err(LineFail::Malformed);
     }

@@ -1,4 +1,6 @@
 // Numbers: decimal digits, and bytes in hex.
+ghost use Rattle.std.specs.Prelude.{◌<◌, IfOk, IfSome};
+
 use crate::fail::LineFail;
 use std::alloc::Global;
 
@@ -23,7 +25,9 @@ pub(crate) fn count(word: &str) -> Result<usize, LineFail> {
 }
 
 /// A number of bytes that isn't 0.
-pub(crate) fn positive(word: &str) -> Result<usize, LineFail> {
+pub(crate) fn positive(word: &str) -> Result<usize, LineFail>
+    ensures { IfOk result (λ found. 0 < found) }
+{
     match count(word)? {
         0 => Err(LineFail::Malformed),
         found => Ok(found),
@@ -47,7 +51,9 @@ pub(crate) fn numbers(alloc: Global, words: &str) -> Result<Vec<u64>, LineFail> 
     Ok(all)
 }
 
-fn hex_digit(byte: u8) -> Option<u8> {
+fn hex_digit(byte: u8) -> Option<u8>
+    ensures { IfSome result (λ digit. digit < 16) }
+{
     match byte {
         b'0'..=b'9' => Some(byte - b'0'),
         b'a'..=b'f' => Some(byte - b'a' + 10),

@@ -1,4 +1,9 @@
 // What comes of a row.
+ghost use Rattle.std.specs.Prelude.{◌≡◌, ◌≤◌, ◌↔◌, length, IfOk};
+ghost use Rattle.std.specs.List.{count_by};
+ghost use Rattle.row_files.specs.Verdicts.{differs, Agrees, Shows};
+ghost use Rattle.row_files.specs.declared.verdict.Found.TheVariants.{Expected};
+
 use crate::row::{Answer, Content, Limits, NamedText, Row, RowFile, Subject};
 use pbs_base::Memory;
 use std::alloc::Global;
@@ -29,7 +34,9 @@ pub struct Tally {
 }
 
 /// Puts a row to the subject.
-pub fn try_row<S: Subject>(alloc: Global, subject: &S, row: Row) -> Result<Verdict, Memory> {
+pub fn try_row<S: Subject>(alloc: Global, subject: &S, row: Row) -> Result<Verdict, Memory>
+    ensures { IfOk result (λ verdict. verdict.line ≡ row.line) }
+{
     let line = row.line;
     let mut files = Vec::new(alloc);
     for file in row.files {
@@ -73,7 +80,10 @@ fn made<S: Subject>(
 }
 
 // What an answer is beside the expected one.
-fn judge(expected: Answer, answer: Answer) -> Found {
+fn judge(expected: Answer, answer: Answer) -> Found
+    ensures expected { (result ≡ Expected) ↔ Agrees expected answer }
+    ensures shown { Shows answer result }
+{
     if answer == expected {
         Found::Expected
     } else {
@@ -81,11 +91,28 @@ fn judge(expected: Answer, answer: Answer) -> Found {
     }
 }
 
+impl Verdict {
+    /// Whether the expected answer was not found.
+    pub fn differs(&self) -> bool
+        ensures { result ≡ differs self.now }
+    {
+        match &self.found {
+            Found::Expected => false,
+            Found::Other(_) => true,
+            Found::NotMade(_) => true,
+        }
+    }
+}
+
 impl Tally {
-    pub fn of(verdicts: &[Verdict]) -> Tally {
+    /// Of these verdicts.
+    pub fn of(verdicts: &[Verdict]) -> Tally
+        ensures rows { result.rows ≡ length verdicts.now }
+        ensures differ { result.differ ≡ count_by differs verdicts.now }
+    {
         let mut differ = 0;
         for verdict in verdicts {
-            if verdict.found != Found::Expected {
+            if verdict.differs() {
                 differ += 1;
             }
         }
@@ -93,5 +120,13 @@ impl Tally {
             rows: verdicts.len(),
             differ,
         }
+    }
+
+    /// The status with which the program ends: whether some rows differ.
+    pub fn status(&self) -> u8
+        ensures status { result ≤ 1 }
+        ensures sound { (result ≡ 0) ↔ (self.now.differ ≡ 0) }
+    {
+        if self.differ == 0 { 0 } else { 1 }
     }
 }
