@@ -1,9 +1,14 @@
 // Want of memory: a command that finds none answers 5 and has written nothing, and its whole answer otherwise. With
 // `rt try --test --fail-alloc N` allocation N fails; a run without that finds memory, and the other tests tell what is
 // answered then.
-use crate::files::{REPORT, REQUEST, answer};
+use crate::files::{shelf, sink, words};
+use pbs_cli::run;
 use pbs_samples::{HANDSHAKE, HANDSHAKE_VERILOG};
 use std::test::Fail;
+
+const REQUEST: &[u8] = b"trace i_req i_ack\n00\n10\n00\n01\n";
+
+const REPORT: &[u8] = b"0 -\n1 -\n2 a_start\n3 -\n4 a_done\nend 4\n";
 
 const RESTART: &[u8] =
     b"spec 1; input req, ack, rst; action start, done, lost; main = (try ([~req]*, [req], {start}, [1]*, [ack], {done}) \
@@ -17,7 +22,10 @@ fn ends(
     status: u8,
     text: &[u8],
 ) -> Result<bool, Fail> {
-    let (found, out) = answer(rt, line, first, REQUEST)?;
+    let words = words(rt.alloc(), line)?;
+    let mut shelf = shelf(rt, 4096, first, REQUEST)?;
+    let mut out = sink(rt, 4096, 512)?;
+    let found = run(rt.alloc(), words.as_slice(), &mut shelf, &mut out);
     if found == 5 {
         return Ok(out.bytes().is_empty());
     }
