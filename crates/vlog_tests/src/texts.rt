@@ -6,12 +6,6 @@ use std::test::Fail;
 use vlog_read::{VlogFail, read_netlist};
 use vlog_write::write_netlist;
 
-/// A text, or the items of one, the rule that it breaks, and the start and end of the span in the whole text.
-pub(crate) type Case = (&'static [u8], u8, u32, u32);
-
-/// What stands before the items of most texts: 50 bytes.
-pub(crate) const FRONT: &[u8] = b"module m (clk, rst, y); input clk, rst; output y; ";
-
 /// A text, and what is written of it.
 pub(crate) type Pair = (&'static [u8], &'static [u8]);
 
@@ -39,27 +33,6 @@ pub(crate) fn breaks_form(alloc: Global, text: &[u8]) -> bool {
         Some(found) => found.rule == 2 || found.rule == 3,
         None => false,
     }
-}
-
-/// The first case that is read, or is refused in another way.
-pub(crate) fn first_wrong(alloc: Global, cases: &[Case]) -> Option<usize> {
-    for (n, (text, rule, start, end)) in cases.iter().enumerate() {
-        if !is_refused(alloc, *text, *rule, *start, *end) {
-            return Some(n);
-        }
-    }
-    None
-}
-
-/// The same for items between the front and the `endmodule`.
-pub(crate) fn first_wrong_items(alloc: Global, cases: &[Case]) -> Result<Option<usize>, Fail> {
-    for (n, (items, rule, start, end)) in cases.iter().enumerate() {
-        let text = joined(alloc, &[(FRONT, 1), (*items, 1), (b" endmodule", 1)])?;
-        if !is_refused(alloc, text.as_slice(), *rule, *start, *end) {
-            return Ok(Some(n));
-        }
-    }
-    Ok(None)
 }
 
 pub(crate) fn read(alloc: Global, text: &[u8]) -> Result<Netlist, Fail> {

@@ -1,6 +1,0 @@
-use Rattle.std.proofs.Common.{IsTrue}
-use Rattle.bool_terms.specs.Terms.{term_inputs_below, term_of}
-use Rattle.pbs_overlap_tests.proofs.terms.minterm.Given as goal
-
-abbrev pub invariant-loop-input : goal.invariant-loop-input
-invariant-loop-input l = IsTrue (term_inputs_below 64 (term_of l.term))
