@@ -1,5 +1,5 @@
 -- What is said of a row.
-use Rattle.std.specs.Prelude.{Bool, true, false, ◌≡◌, ⊤}
+use Rattle.std.specs.Prelude.{Bool, true, false, ◌≡◌}
 use Rattle.row_files.specs.declared.row.Answer.{Answer}
 use Rattle.row_files.specs.declared.verdict.Found.{Found}
 use Rattle.row_files.specs.declared.verdict.Found.TheVariants.{Expected, Other, NotMade}
