@@ -64,10 +64,6 @@ bit_is : (b : Bool) → bit_of (bit_kind b) ≡ Some b
 bit_is false = refl
 bit_is true = refl
 
-version_is : (two : Bool) → version_of (version_kind two) ≡ Some two
-version_is false = refl
-version_is true = refl
-
 -- one step of a walk
 walk-step : (p q : Place) (k : TokenKind) (at : Span) (z : List Token) → step p k at ≡ Some q
     → walk p (token k at ∷ z) ≡ walk q z

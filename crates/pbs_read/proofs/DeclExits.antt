@@ -5,22 +5,22 @@ use Rattle.std.specs.Prelude.{option_map}
 use Rattle.std.proofs.lemmas.Bool.{false≢true}
 use Rattle.pbs_ast.specs.declared.syntax.Expr.{Expr}
 use Rattle.pbs_text.specs.declared.fail.ReadSpec.{ReadSpec}
-use Rattle.pbs_text.specs.declared.fail.ReadSpec.TheVariants.{Memory, Refused}
+use Rattle.pbs_text.specs.declared.fail.ReadSpec.TheVariants.{Refused}
 use Rattle.pbs_text.specs.Trees.{width_value, word_at, declared, input_of, inputs_of, names_of}
 use Rattle.pbs_text.specs.places.Reading.{stepped, bind, read}
-use Rattle.pbs_descent.specs.Descent.{BeginsWith, NoFront, front_refusal, behind_expr, ReadsExpr, StopsExpr}
-use Rattle.pbs_read.specs.DeclDescent.{TakesBit, ReadsWidth, StopsWidth, ReadsInput, StopsInput, ReadsInputs}
-use Rattle.pbs_read.specs.DeclDescent.{StopsInputs, ReadsNames, StopsNames, ReadsSet, StopsSet, ReadsSets}
-use Rattle.pbs_read.specs.DeclDescent.{StopsSets, ReadsLevelHead, StopsLevel, ReadsLevel, ReadsProd}
+use Rattle.pbs_descent.specs.Descent.{BeginsWith, NoFront, front_refusal, behind_expr, ReadsExpr}
+use Rattle.pbs_read.specs.DeclDescent.{TakesBit, ReadsWidth, StopsWidth, ReadsInput}
+use Rattle.pbs_read.specs.DeclDescent.{ReadsSet, ReadsSets}
+use Rattle.pbs_read.specs.DeclDescent.{ReadsLevelHead, ReadsLevel, ReadsProd}
 use Rattle.pbs_read.specs.DeclDescent.{StopsProd}
 use Rattle.pbs_text.specs.Grammar.{token, Second, bit_kind, Width, OneBit, TwoBits, MoreBits, width_kind, ExprPhrase}
-use Rattle.pbs_text.specs.Grammar.{OneSeq, MoreSeqs, OneItem, MoreItems, InputPhrase, OneWire, Bus, InputsPhrase}
-use Rattle.pbs_text.specs.Grammar.{OneInput, MoreInputs, NamesPhrase, OneName, MoreNames, SetsPhrase, NoSets}
-use Rattle.pbs_text.specs.Grammar.{MoreSets, InputDecl, ProdDecl}
+use Rattle.pbs_text.specs.Grammar.{OneSeq, MoreSeqs, OneItem, MoreItems, OneWire, Bus, InputsPhrase}
+use Rattle.pbs_text.specs.Grammar.{OneInput, MoreInputs, NamesPhrase, OneName, MoreNames, SetsPhrase}
+use Rattle.pbs_text.specs.Grammar.{MoreSets, ProdDecl}
 use Rattle.pbs_text.specs.Holes.{Front, OfProd}
-use Rattle.pbs_text.specs.places.Places.{InputHole, FirstInput, NextInput, NameHole, FirstName, NextName, LevelFront}
+use Rattle.pbs_text.specs.places.Places.{InputHole, FirstInput, NextInput, FirstName, LevelFront}
 use Rattle.pbs_text.specs.places.Places.{Place, InDecls, WantsInput, AfterInputName, WantsWidth, AfterInput}
-use Rattle.pbs_text.specs.places.Places.{WantsName, AfterName, AfterLevelEquals, AfterLevelBit, InLevel}
+use Rattle.pbs_text.specs.places.Places.{WantsName, AfterName, AfterLevelEquals, AfterLevelBit}
 use Rattle.pbs_text.specs.places.Places.{AfterSetColon, AfterSetBit, before}
 use Rattle.pbs_text.specs.places.Steps.{bit_of, width_of, with_next, level_front, step}
 use Rattle.pbs_ast.specs.declared.syntax.Decl.{Decl}
@@ -77,55 +77,6 @@ inputs_more two bytes end old rest after more before now next c x e f s r =
       shorter = let a = s.shorter in let b = r.shorter in let lengths = ap length e in omega arith;
     }
 
-semicolon_inputs : {two : Bool} (end : ℕ) (is : InputsPhrase two) (f : Front two) (at c : Span) (new : List Token)
-    → read end (behind_inputs is f at) (token Semicolon c ∷ new) ≡ read end
-    (InDecls (with_next f (InputDecl at is c))) new
-semicolon_inputs end (OneInput i) f at c new = refl
-semicolon_inputs end (MoreInputs is b i) f at c new = refl
-
-pub inputs_whole : (two : Bool) (bytes : List ℕ) (end : ℕ) (old rest new : List Token) (before now : List Decl)
-    (c : Span) → rest ≡ token Semicolon c ∷ new → InputsSoFar two bytes end old before now rest
-    → ReadsInputs two bytes end old before now new
-inputs_whole two bytes end old rest new before now c e s =
-    record {
-      phrase = s.phrase;
-      end_at = c;
-      value_is = s.value_is;
-      goes_on = λ f at. s.goes_on f at ∙ rw e (semicolon_inputs end s.phrase f at c new);
-      shorter = let a = s.shorter in let lengths = ap length e in omega arith;
-    }
-
-stuck_input : {two : Bool} (end : ℕ) (i : InputPhrase two) (h : InputHole two) (ts : List Token)
-    → (BeginsWith Comma ts → ⊥) → (BeginsWith Semicolon ts → ⊥)
-    → read end (AfterInput i h) ts ≡ Err (front_refusal end ts)
-stuck_input end i h [] a b = refl
-stuck_input end i h (t ∷ ts) a b = ap (λ s. bind (λ q. read end q ts) (stepped s t.span)) (by t.kind a b)
-  where
-    by : (k : TokenKind) → (k ≡ Comma → ⊥) → (k ≡ Semicolon → ⊥) → step (AfterInput i h) k t.span ≡ None
-    by Comma x y = absurd (x refl)
-    by Semicolon x y = absurd (y refl)
-    by _ x y = refl
-
-stuck_inputs : {two : Bool} (end : ℕ) (is : InputsPhrase two) (f : Front two) (at : Span) (ts : List Token)
-    → (BeginsWith Comma ts → ⊥) → (BeginsWith Semicolon ts → ⊥)
-    → read end (behind_inputs is f at) ts ≡ Err (front_refusal end ts)
-stuck_inputs end (OneInput i) f at ts a b = stuck_input end i (FirstInput f at) ts a b
-stuck_inputs end (MoreInputs is c i) f at ts a b = stuck_input end i (NextInput f at is c) ts a b
-
-pub inputs_unended : (two : Bool) (bytes : List ℕ) (end : ℕ) (old rest : List Token) (before now : List Decl)
-    (e : ReadSpec) → (e ≡ Refused (front_refusal end rest)) × (BeginsWith Semicolon rest → ⊥)
-    → (BeginsWith Comma rest → ⊥)
-    → InputsSoFar two bytes end old before now rest → StopsInputs two end old e
-inputs_unended two bytes end old rest before now e stop other s = rw (stop.0)
-    (λ f at. s.goes_on f at ∙ stuck_inputs end s.phrase f at rest other stop.1)
-
-pub inputs_stop : (two : Bool) (bytes : List ℕ) (end : ℕ) (old rest after : List Token) (before now : List Decl)
-    (c : Span) (e : ReadSpec) → rest ≡ token Comma c ∷ after → InputsSoFar two bytes end old before now rest
-    → StopsInput two end after e → StopsInputs two end old e
-inputs_stop two bytes end old rest after before now c Memory f s stops = tt
-inputs_stop two bytes end old rest after before now c (Refused r) f s stops = λ g at. s.goes_on g at
-    ∙ rw f (comma_input end s.phrase g at c after ∙ stops (NextInput g at s.phrase c))
-
 -- ---- names
 
 pub record NamesSoFar (bytes : List ℕ) (end : ℕ) (old : List Token) (before now : List Decl)
@@ -159,51 +110,6 @@ names_more bytes end old rest after more before now next c n x e g v f s =
       goes_on = λ two h at. s.goes_on two h at ∙ rw e (rw g refl);
       shorter = let a = s.shorter in let i = ap length e in let j = ap length g in omega arith;
     }
-
-pub names_whole : (bytes : List ℕ) (end : ℕ) (old rest new : List Token) (before now : List Decl) (c : Span)
-    → rest ≡ token Semicolon c ∷ new → NamesSoFar bytes end old before now rest
-    → ReadsNames bytes end old before now new
-names_whole bytes end old rest new before now c e s =
-    record {
-      phrase = s.phrase;
-      end_at = c;
-      value_is = s.value_is;
-      goes_on = λ two f at. s.goes_on two f at
-          ∙ rw e refl;
-      shorter = let a = s.shorter in let i = ap length e in omega arith;
-    }
-
-stuck_name : {two : Bool} (end : ℕ) (ns : NamesPhrase) (f : Front two) (at : Span) (ts : List Token)
-    → (BeginsWith Comma ts → ⊥) → (BeginsWith Semicolon ts → ⊥)
-    → read end (AfterName ns f at) ts ≡ Err (front_refusal end ts)
-stuck_name end ns f at [] a b = refl
-stuck_name end ns f at (t ∷ ts) a b = ap (λ s. bind (λ q. read end q ts) (stepped s t.span)) (by t.kind a b)
-  where
-    by : (k : TokenKind) → (k ≡ Comma → ⊥) → (k ≡ Semicolon → ⊥) → step (AfterName ns f at) k t.span ≡ None
-    by Comma x y = absurd (x refl)
-    by Semicolon x y = absurd (y refl)
-    by _ x y = refl
-
-pub names_unended : (bytes : List ℕ) (end : ℕ) (old rest : List Token) (before now : List Decl) (e : ReadSpec)
-    → (e ≡ Refused (front_refusal end rest)) × (BeginsWith Semicolon rest → ⊥) → (BeginsWith Comma rest → ⊥)
-    → NamesSoFar bytes end old before now rest → StopsNames end old e
-names_unended bytes end old rest before now e stop other s = rw (stop.0)
-    (λ two f at. s.goes_on two f at ∙ stuck_name end s.phrase f at rest other stop.1)
-
-wants_name : {two : Bool} (end : ℕ) (h : NameHole two) (ts : List Token) → (BeginsWith Name ts → ⊥)
-    → read end (WantsName h) ts ≡ Err (front_refusal end ts)
-wants_name end h [] a = refl
-wants_name end h (t ∷ ts) a = ap (λ s. bind (λ q. read end q ts) (stepped s t.span)) (by t.kind a)
-  where
-    by : (k : TokenKind) → (k ≡ Name → ⊥) → step (WantsName h) k t.span ≡ None
-    by Name x = absurd (x refl)
-    by _ x = refl
-
-pub names_stop : (bytes : List ℕ) (end : ℕ) (old rest after : List Token) (before now : List Decl) (c : Span)
-    (e : ReadSpec) → rest ≡ token Comma c ∷ after → NamesSoFar bytes end old before now rest
-    → (e ≡ Refused (front_refusal end after)) × (BeginsWith Name after → ⊥) → StopsNames end old e
-names_stop bytes end old rest after before now c e f s stop =
-    rw (stop.0) (λ two g at. s.goes_on two g at ∙ rw f (wants_name end (NextName g at s.phrase c) after stop.1))
 
 -- ---- an input
 
@@ -313,9 +219,6 @@ bit_found old rest t b e f = record { at = t.span; taken = e ∙ ap (λ k. token
     by One b e = let same : b ≡ true = cc in ap bit_kind same
     by _ b e = absurd (cc)
 
-pub no_bit_front : (ts rest : List Token) (t : Token) → ts ≡ t ∷ rest → None ≡ bit_of t.kind → NoFront bit_of ts
-no_bit_front ts rest t e f = rw e (sym f)
-
 takes_set_bit : {two : Bool} (end : ℕ) (l : LevelFront two) (ss : SetsPhrase) (at c : Span) (b : Bool) (to : Span)
     (z : List Token)
     → read end (AfterSetColon l ss at c) (token (bit_kind b) to ∷ z) ≡ read end (AfterSetBit l ss at c b to) z
@@ -333,38 +236,6 @@ set_read end old one two_of new c e b f t g =
       shorter = let i = ap length f in let j = ap length t.taken in let k = ap length g in omega arith;
     }
 
-stuck_set_bit : {two : Bool} (end : ℕ) (l : LevelFront two) (ss : SetsPhrase) (at c : Span) (ts : List Token)
-    → NoFront bit_of ts → read end (AfterSetColon l ss at c) ts ≡ Err (front_refusal end ts)
-stuck_set_bit end l ss at c [] none = refl
-stuck_set_bit end l ss at c (t ∷ ts) none = ap (λ o. bind (λ q. read end q ts)
-    (stepped (option_map (λ b. AfterSetBit l ss at c b t.span) o) t.span)) none
-
-stuck_set_end : {two : Bool} (end : ℕ) (l : LevelFront two) (ss : SetsPhrase) (at c : Span) (b : Bool) (to : Span)
-    (ts : List Token) → (BeginsWith Semicolon ts → ⊥) → read end (AfterSetBit l ss at c b to) ts ≡ Err
-    (front_refusal end ts)
-stuck_set_end end l ss at c b to [] other = refl
-stuck_set_end end l ss at c b to (t ∷ ts) other = ap (λ s. bind (λ q. read end q ts) (stepped s t.span))
-    (by t.kind other)
-  where
-    by : (k : TokenKind) → (k ≡ Semicolon → ⊥) → step (AfterSetBit l ss at c b to) k t.span ≡ None
-    by Semicolon x = absurd (x refl)
-    by _ x = refl
-
-pub set_no_bit : (end : ℕ) (old one : List Token) (c : Span) (e : ReadSpec) → old ≡ token Colon c ∷ one
-    → (e ≡ Refused (front_refusal end one)) × NoFront bit_of one → StopsSet end old e
-set_no_bit end old one c e f stop = rw (stop.0) (λ two l ss at. rw f (stuck_set_bit end l ss at c one stop.1))
-
-pub set_no_end : (end : ℕ) (old one two_of : List Token) (c : Span) (b : Bool) (e : ReadSpec)
-    → old ≡ token Colon c ∷ one → TakesBit one b two_of → (e ≡ Refused (front_refusal end two_of)) ×
-    (BeginsWith Semicolon two_of → ⊥) → StopsSet end old e
-set_no_end end old one two_of c b e f t stop =
-    rw (stop.0)
-    (λ two l ss at. rw f (rw (t.taken) (takes_set_bit end l ss at c b t.at two_of
-    ∙ stuck_set_end end l ss at c b t.at two_of stop.1)))
-
-pub sets_none : (bytes : List ℕ) (end : ℕ) (old : List Token) → ReadsSets bytes end old [] old
-sets_none bytes end old = record { phrase = NoSets; value_is = refl; goes_on = λ two l. refl; shorter = omega arith }
-
 pub sets_more : (bytes : List ℕ) (end : ℕ) (old rest after more : List Token) (sets sets' : List Set) (n : Span)
     (word : List ℕ) (b : Bool) → rest ≡ token Name n ∷ after → word ≡ word_at bytes n
     → sets' ≡ sets ++ record { action = word; span = n; value = b } ∷ [] → ReadsSets bytes end old sets rest
@@ -379,12 +250,6 @@ sets_more bytes end old rest after more sets sets' n word b e w f s r =
   where
     one : List ℕ → Set
     one v = record { action = v; span = n; value = b }
-
-pub sets_stop : (bytes : List ℕ) (end : ℕ) (old rest after : List Token) (sets : List Set) (n : Span) (e : ReadSpec)
-    → rest ≡ token Name n ∷ after → ReadsSets bytes end old sets rest → StopsSet end after e → StopsSets end old e
-sets_stop bytes end old rest after sets n Memory f s stops = tt
-sets_stop bytes end old rest after sets n (Refused r) f s stops = λ two l. s.goes_on two l
-    ∙ rw f (stops two l s.phrase n)
 
 takes_level_bit : {two : Bool} (end : ℕ) (f : Front two) (at n q : Span) (b : Bool) (to : Span) (z : List Token)
     → read end (AfterLevelEquals f at n q) (token (bit_kind b) to ∷ z) ≡ read end (AfterLevelBit f at n q b to) z
@@ -404,37 +269,6 @@ level_head_read end old one two_of three new n q o b e f t g =
       shorter = let i = ap length e in let j = ap length f in let k = ap length t.taken in let m =
           ap length g in omega arith;
     }
-
-stuck_level_bit : {two : Bool} (end : ℕ) (f : Front two) (at n q : Span) (ts : List Token) → NoFront bit_of ts
-    → read end (AfterLevelEquals f at n q) ts ≡ Err (front_refusal end ts)
-stuck_level_bit end f at n q [] none = refl
-stuck_level_bit end f at n q (t ∷ ts) none = ap (λ o. bind (λ r. read end r ts)
-    (stepped (option_map (λ b. AfterLevelBit f at n q b t.span) o) t.span)) none
-
-stuck_level_open : {two : Bool} (end : ℕ) (f : Front two) (at n q : Span) (b : Bool) (to : Span) (ts : List Token)
-    → (BeginsWith OpenCurly ts → ⊥) → read end (AfterLevelBit f at n q b to) ts ≡ Err (front_refusal end ts)
-stuck_level_open end f at n q b to [] other = refl
-stuck_level_open end f at n q b to (t ∷ ts) other = ap (λ s. bind (λ r. read end r ts) (stepped s t.span))
-    (by t.kind other)
-  where
-    by : (k : TokenKind) → (k ≡ OpenCurly → ⊥) → step (AfterLevelBit f at n q b to) k t.span ≡ None
-    by OpenCurly x = absurd (x refl)
-    by _ x = refl
-
-pub level_no_bit : (end : ℕ) (old one two_of : List Token) (n q : Span) (e : ReadSpec) → old ≡ token Name n ∷ one
-    → one ≡ token Equals q ∷ two_of → (e ≡ Refused (front_refusal end two_of)) × NoFront bit_of two_of
-    → StopsLevel end old e
-level_no_bit end old one two_of n q e f g stop = rw (stop.0) (λ two h at. rw f
-    (rw g (stuck_level_bit end h at n q two_of stop.1)))
-
-pub level_no_open : (end : ℕ) (old one two_of three : List Token) (n q : Span) (b : Bool) (e : ReadSpec)
-    → old ≡ token Name n ∷ one → one ≡ token Equals q ∷ two_of → TakesBit two_of b three
-    → (e ≡ Refused (front_refusal end three)) × (BeginsWith OpenCurly three → ⊥) → StopsLevel end old e
-level_no_open end old one two_of three n q b e f g t stop =
-    rw (stop.0)
-    (λ two h at. rw f
-    (rw g (rw (t.taken) (takes_level_bit end h at n q b t.at three
-    ∙ stuck_level_open end h at n q b t.at three stop.1))))
 
 pub level_read : (bytes : List ℕ) (end : ℕ) (old one two_of new : List Token) (n close : Span) (word : List ℕ)
     (b : Bool) (sets : List Set) → ReadsLevelHead end old n b one → ReadsSets bytes end one sets two_of
@@ -457,29 +291,6 @@ level_read bytes end old one two_of new n close word b sets h s e w =
   where
     made : List ℕ → List Set → Level
     made v x = record { name = v; span = n; start = b; sets = x }
-
-pub level_sets_stop : (end : ℕ) (old one : List Token) (n : Span) (b : Bool) (e : ReadSpec)
-    → ReadsLevelHead end old n b one → StopsSets end one e → StopsLevel end old e
-level_sets_stop end old one n b Memory h stops = tt
-level_sets_stop end old one n b (Refused r) h stops = λ two f at. h.goes_on two f at
-    ∙ stops two (level_front f at n h.equals_at b h.bit_at h.open_at)
-
-stuck_close : {two : Bool} (end : ℕ) (l : LevelFront two) (ss : SetsPhrase) (ts : List Token) → (BeginsWith Name ts → ⊥)
-    → (BeginsWith CloseCurly ts → ⊥) → read end (InLevel l ss) ts ≡ Err (front_refusal end ts)
-stuck_close end l ss [] a b = refl
-stuck_close end l ss (t ∷ ts) a b = ap (λ s. bind (λ q. read end q ts) (stepped s t.span)) (by t.kind a b)
-  where
-    by : (k : TokenKind) → (k ≡ Name → ⊥) → (k ≡ CloseCurly → ⊥) → step (InLevel l ss) k t.span ≡ None
-    by Name x y = absurd (x refl)
-    by CloseCurly x y = absurd (y refl)
-    by _ x y = refl
-
-pub level_unclosed : (bytes : List ℕ) (end : ℕ) (old one two_of : List Token) (n : Span) (b : Bool) (sets : List Set)
-    (e : ReadSpec) → ReadsLevelHead end old n b one → ReadsSets bytes end one sets two_of → (BeginsWith Name two_of → ⊥)
-    → (e ≡ Refused (front_refusal end two_of)) × (BeginsWith CloseCurly two_of → ⊥) → StopsLevel end old e
-level_unclosed bytes end old one two_of n b sets e h s other stop =
-    rw (stop.0) (λ two f at. h.goes_on two f at ∙ (s.goes_on two (level_front f at n h.equals_at b h.bit_at h.open_at)
-    ∙ stuck_close end (level_front f at n h.equals_at b h.bit_at h.open_at) s.phrase two_of other stop.1))
 
 -- ---- productions
 
@@ -508,11 +319,6 @@ prod_read two bytes end old one two_of three new n q c word x extent e f r g w =
   where
     made : List ℕ → Expr → Prod
     made v y = record { name = v; span = n; body = y }
-
-pub prod_expr_stops : (two : Bool) (end : ℕ) (old one two_of : List Token) (n q : Span) (e : ReadSpec)
-    → old ≡ token Name n ∷ one → one ≡ token Equals q ∷ two_of → StopsExpr two end 0 two_of e → StopsProd two end old e
-prod_expr_stops two end old one two_of n q Memory f g stops = tt
-prod_expr_stops two end old one two_of n q (Refused r) f g stops = λ h at. rw f (rw g (stops (OfProd h at n q) refl))
 
 pub prod_unended : (two : Bool) (bytes : List ℕ) (end : ℕ) (old one two_of three : List Token) (n q : Span) (x : Expr)
     (extent : Span) (e : ReadSpec) → old ≡ token Name n ∷ one → one ≡ token Equals q ∷ two_of

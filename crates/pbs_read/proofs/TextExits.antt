@@ -6,16 +6,16 @@ use Rattle.pbs_ast.specs.declared.syntax.Expr.{Expr}
 use Rattle.pbs_text.specs.declared.fail.ReadSpec.{ReadSpec}
 use Rattle.pbs_text.specs.declared.fail.ReadSpec.TheVariants.{Memory, Refused}
 use Rattle.pbs_text.specs.places.Reading.{stepped, bind, read}
-use Rattle.pbs_descent.specs.Descent.{BeginsWith, NoFront, front_refusal, behind_expr, ReadsExpr, StopsExpr}
+use Rattle.pbs_descent.specs.Descent.{BeginsWith, NoFront, front_refusal, behind_expr, ReadsExpr}
 use Rattle.pbs_text.specs.Bare.{bare_prod}
 use Rattle.pbs_text.specs.Trees.{Declared, with_decl}
-use Rattle.pbs_read.specs.DeclDescent.{ReadsInputs, StopsInputs, ReadsNames, StopsNames, StopsLevel}
-use Rattle.pbs_read.specs.DeclDescent.{ReadsLevel, ReadsProd, StopsProd}
-use Rattle.pbs_read.specs.TextDescent.{bare_lists, nothing_yet, made_spec, decl_word, decl_kind, behind_word}
+use Rattle.pbs_read.specs.DeclDescent.{ReadsInputs, ReadsNames}
+use Rattle.pbs_read.specs.DeclDescent.{ReadsLevel, ReadsProd}
+use Rattle.pbs_read.specs.TextDescent.{bare_lists, made_spec, decl_word, decl_kind, behind_word}
 use Rattle.pbs_read.specs.TextDescent.{ReadsVersion, StopsVersion, TakesDeclWord, ReadsDecl, StopsDecl}
-use Rattle.pbs_read.specs.TextDescent.{ReadsDecls, StopsDecls, ReadsMain, StopsMain, ReadsText, StopsText}
+use Rattle.pbs_read.specs.TextDescent.{ReadsDecls, StopsDecls, ReadsMain, StopsMain, ReadsText}
 use Rattle.pbs_text.specs.Grammar.{token, version_kind, ExprPhrase, OneSeq, MoreSeqs, OneItem, MoreItems, InputDecl}
-use Rattle.pbs_text.specs.Grammar.{ActionDecl, LevelDecl, ProdDecl, DeclsPhrase, NoDecls, MoreDecls, OfVersion}
+use Rattle.pbs_text.specs.Grammar.{ActionDecl, LevelDecl, ProdDecl, DeclsPhrase, MoreDecls, OfVersion}
 use Rattle.pbs_text.specs.Holes.{Front, OfProd, OfMain}
 use Rattle.pbs_text.specs.places.Places.{AfterSpec, AfterVersion, InDecls, Whole}
 use Rattle.pbs_text.specs.places.Steps.{version_of, whole_spec, first_front, step}
@@ -114,9 +114,6 @@ word_found old rest t found e f = record {
       ∙ ap (λ k. token k t.span ∷ rest) (sym (word_at_kind t.kind found f));
 }
 
-pub no_word_front : (ts rest : List Token) (t : Token) → ts ≡ t ∷ rest → None ≡ decl_word t.kind → NoFront decl_word ts
-no_word_front ts rest t e f = rw e (sym f)
-
 pub decl_inputs : (two : Bool) (bytes : List ℕ) (end : ℕ) (old new : List Token) (l : Lists) (xs : List Decl)
     → ReadsInputs two bytes end old l.inputs xs new
     → ReadsDecl two bytes end OfInput old (bare_lists l) (bare_lists (record l { inputs = xs })) new
@@ -128,11 +125,6 @@ decl_inputs two bytes end old new l xs r =
       goes_on = λ f at. r.goes_on f at;
       shorter = r.shorter;
     }
-
-pub decl_inputs_stops : (two : Bool) (end : ℕ) (old : List Token) (e : ReadSpec) → StopsInputs two end old e
-    → StopsDecl two end OfInput old e
-decl_inputs_stops two end old Memory s = tt
-decl_inputs_stops two end old (Refused r) s = s
 
 pub decl_names : (two : Bool) (bytes : List ℕ) (end : ℕ) (old new : List Token) (l : Lists) (xs : List Decl)
     → ReadsNames bytes end old l.actions xs new
@@ -146,11 +138,6 @@ decl_names two bytes end old new l xs r =
       shorter = r.shorter;
     }
 
-pub decl_names_stops : (two : Bool) (end : ℕ) (old : List Token) (e : ReadSpec) → StopsNames end old e
-    → StopsDecl two end OfAction old e
-decl_names_stops two end old Memory s = tt
-decl_names_stops two end old (Refused r) s = λ f at. s two f at
-
 pub decl_level : (two : Bool) (bytes : List ℕ) (end : ℕ) (old new : List Token) (l : Lists) (xs : List Level)
     (x : Level) → xs ≡ l.levels ++ x ∷ [] → ReadsLevel bytes end old x new
     → ReadsDecl two bytes end OfLevel old (bare_lists l) (bare_lists (record l { levels = xs })) new
@@ -161,11 +148,6 @@ decl_level two bytes end old new l xs x e r =
       goes_on = λ f at. r.goes_on two f at;
       shorter = r.shorter;
     }
-
-pub decl_level_stops : (two : Bool) (end : ℕ) (old : List Token) (e : ReadSpec) → StopsLevel end old e
-    → StopsDecl two end OfLevel old e
-decl_level_stops two end old Memory s = tt
-decl_level_stops two end old (Refused r) s = λ f at. s two f at
 
 pub decl_prod : (two : Bool) (bytes : List ℕ) (end : ℕ) (old new : List Token) (l : Lists) (xs : List Prod) (x : Prod)
     → xs ≡ l.prods ++ x ∷ [] → ReadsProd two bytes end old (bare_prod x) new
@@ -181,15 +163,6 @@ decl_prod two bytes end old new l xs x e r =
   where
     with_prods : List Prod → Declared
     with_prods y = record { inputs = l.inputs; actions = l.actions; levels = l.levels; prods = y }
-
-pub decl_prod_stops : (two : Bool) (end : ℕ) (old : List Token) (e : ReadSpec) → StopsProd two end old e
-    → StopsDecl two end OfProd old e
-decl_prod_stops two end old Memory s = tt
-decl_prod_stops two end old (Refused r) s = s
-
-pub decls_none : (two : Bool) (bytes : List ℕ) (end : ℕ) (old : List Token) (lists : Declared) → lists ≡ nothing_yet
-    → ReadsDecls two bytes end old lists old
-decls_none two bytes end old lists e = record { phrase = NoDecls; value_is = e; goes_on = λ a b c. refl }
 
 starts_decl : {two : Bool} (end : ℕ) (found : DeclWord) (f : Front two) (at : Span) (z : List Token)
     → read end (InDecls f) (token (decl_kind found) at ∷ z) ≡ read end (behind_word found f at) z
@@ -212,12 +185,6 @@ decls_more two bytes end old rest after more lists next found t s r =
           (front_with two a b c s.phrase) t.at after ∙ r.goes_on (front_with two a b c s.phrase) t.at);
     }
 
-pub decls_shorter : (two : Bool) (bytes : List ℕ) (end : ℕ) (rest after more : List Token) (lists next : Declared)
-    (found : DeclWord) → TakesDeclWord rest found after → ReadsDecl two bytes end found after lists next more
-    → length more < length rest
-decls_shorter two bytes end rest after more lists next found t r = let i = ap length t.taken in let j =
-    r.shorter in omega arith
-
 pub decls_stop : (two : Bool) (bytes : List ℕ) (end : ℕ) (old rest after : List Token) (lists : Declared)
     (found : DeclWord) (e : ReadSpec) → TakesDeclWord rest found after → ReadsDecls two bytes end old lists rest
     → StopsDecl two end found after e → StopsDecls two end old e
@@ -227,23 +194,6 @@ decls_stop two bytes end old rest after lists found (Refused r) t s stops =
     ∙ stops (front_with two a b c s.phrase) t.at)
 
 -- ---- main
-
-stuck_decl : {two : Bool} (end : ℕ) (f : Front two) (ts : List Token) → NoFront decl_word ts
-    → (BeginsWith MainWord ts → ⊥) → read end (InDecls f) ts ≡ Err (front_refusal end ts)
-stuck_decl end f [] none other = refl
-stuck_decl end f (t ∷ ts) none other = ap (λ s. bind (λ q. read end q ts) (stepped s t.span)) (by t.kind none other)
-  where
-    by : (k : TokenKind) → decl_word k ≡ None → (k ≡ MainWord → ⊥) → step (InDecls f) k t.span ≡ None
-    by InputWord n x = absurd (cc)
-    by ActionWord n x = absurd (cc)
-    by LevelWord n x = absurd (cc)
-    by ProdWord n x = absurd (cc)
-    by MainWord n x = absurd (x refl)
-    by _ n x = refl
-
-pub main_none : (two : Bool) (end : ℕ) (old : List Token) (e : ReadSpec) → NoFront decl_word old
-    → (e ≡ Refused (front_refusal end old)) × (BeginsWith MainWord old → ⊥) → StopsMain two end old e
-main_none two end old e none stop = rw (stop.0) (λ f. stuck_decl end f old none stop.1)
 
 closes_main : {two : Bool} (end : ℕ) (e : ExprPhrase two) (f : Front two) (m q c : Span) (new : List Token)
     → read end (behind_expr e (OfMain f m q)) (token Semicolon c ∷ new) ≡ read end
@@ -267,12 +217,6 @@ main_read two bytes end old one two_of three [] m q c x extent e f r g none =
       goes_on = λ h. rw e (rw f (r.goes_on (OfMain h m q) refl ∙ rw g (closes_main end r.phrase h m q c [])));
     }
 main_read two bytes end old one two_of three (t ∷ new) m q c x extent e f r g none = absurd (omega arith)
-
-pub main_expr_stops : (two : Bool) (end : ℕ) (old one two_of : List Token) (m q : Span) (e : ReadSpec)
-    → old ≡ token MainWord m ∷ one → one ≡ token Equals q ∷ two_of → StopsExpr two end 0 two_of e
-    → StopsMain two end old e
-main_expr_stops two end old one two_of m q Memory f g stops = tt
-main_expr_stops two end old one two_of m q (Refused r) f g stops = λ h. rw f (rw g (stops (OfMain h m q) refl))
 
 pub main_unended : (two : Bool) (bytes : List ℕ) (end : ℕ) (old one two_of three : List Token) (m q : Span) (x : Expr)
     (extent : Span) (e : ReadSpec) → old ≡ token MainWord m ∷ one → one ≡ token Equals q ∷ two_of
@@ -305,20 +249,3 @@ text_read bytes end two old one two_of lists x spec e v d m =
       is_read = v.goes_on ∙ (d.goes_on v.spec_at v.version_at v.start_at ∙ m.goes_on f);
       value_is = e ∙ ap₂ (made_spec two) d.value_is m.value_is;
     }
-
-pub text_decls_stop : (end : ℕ) (two : Bool) (old one : List Token) (e : ReadSpec) → ReadsVersion end old two one
-    → StopsDecls two end one e → StopsText end old e
-text_decls_stop end two old one Memory v stops = tt
-text_decls_stop end two old one (Refused r) v stops = v.goes_on ∙ stops v.spec_at v.version_at v.start_at
-
-pub text_main_stop : (bytes : List ℕ) (end : ℕ) (two : Bool) (old one two_of : List Token) (lists : Declared)
-    (e : ReadSpec) → ReadsVersion end old two one → ReadsDecls two bytes end one lists two_of
-    → StopsMain two end two_of e → StopsText end old e
-text_main_stop bytes end two old one two_of lists Memory v d stops = tt
-text_main_stop bytes end two old one two_of lists (Refused r) v d stops =
-    v.goes_on ∙ (d.goes_on v.spec_at v.version_at v.start_at ∙ stops
-    (front_with two v.spec_at v.version_at v.start_at d.phrase))
-
-pub text_version_stop : (end : ℕ) (old : List Token) (e : ReadSpec) → StopsVersion end old e → StopsText end old e
-text_version_stop end old Memory stops = tt
-text_version_stop end old (Refused r) stops = stops

@@ -1,5 +1,5 @@
-//! The text of a specification: `specs/` says what specification a text stands for, and by which rule another is refused.
-//! Here are the types of which that speaks.
+//! The text of a specification: `specs/` says what specification a text stands for, and by which rule another is
+//! refused. Here are the types of which that speaks.
 #![tactic(auto)]
 
 mod fail;
