@@ -7,7 +7,7 @@ use Rattle.pbs_base.specs.declared.refusal.Span.{Span}
 use Rattle.pbs_ast.specs.declared.syntax.SpecTerm.{SpecTerm}
 use Rattle.pbs_ast.specs.declared.syntax.Expr.{Expr}
 use Rattle.pbs_ast.specs.declared.syntax.Prod.{Prod}
-use Rattle.pbs_read.specs.Bare.{bare_term, bare_expr, bare_prod}
+use Rattle.pbs_text.specs.Bare.{bare_term, bare_expr, bare_prod}
 use Rattle.pbs_rules.specs.Naming.{body_of}
 use Rattle.pbs_rules.specs.Forms.{Form, form, parts}
 use Rattle.pbs_rules.specs.Forms.{Empty, Terminal, Action, Seq, Choice, Star, Plus, Opt, Hold, Scope, Name, Repeat}

@@ -8,7 +8,7 @@ use Rattle.pbs_ast.specs.declared.syntax.SpecTerm.TheBlock.{hidden-the_row-SpecT
 use Rattle.pbs_ast.specs.declared.syntax.Expr.{Expr}
 use Rattle.pbs_ast.specs.declared.syntax.Prod.{Prod}
 use Rattle.pbs_ast.specs.declared.syntax.Spec.{Spec}
-use Rattle.pbs_read.specs.Bare.{bare_term, bare_terms, bare_expr, bare_prod}
+use Rattle.pbs_text.specs.Bare.{bare_term, bare_terms, bare_expr, bare_prod}
 use Rattle.pbs_rules.specs.Forms.{Form, form, parts, Stands, OfMain, OfProd, OfPart}
 use Rattle.pbs_rules.specs.Forms as forms
 use Rattle.pbs_rules.specs.Naming.{prod_names}

@@ -2,7 +2,7 @@
 use Rattle.std.proofs.Common.{◌≡◌, map, refl, ap, ◌∙◌}
 use Rattle.pbs_ast.specs.declared.syntax.Expr.{Expr}
 use Rattle.pbs_ast.specs.declared.syntax.Kind as kind
-use Rattle.pbs_read.specs.Bare.{bare_term, bare_kind, bare_exprs, bare_expr}
+use Rattle.pbs_text.specs.Bare.{bare_term, bare_kind, bare_exprs, bare_expr}
 use Rattle.pbs_rules.specs.Forms.{Form, form, form_of}
 use Rattle.pbs_rules.specs.Forms.{Empty, Terminal, Action, Seq, Choice, Star, Plus, Opt, Hold, Scope, Name, Repeat}
 use Rattle.pbs_bare.proofs.Rows.{exprs_of_row, bare_exprs_is}

@@ -11,7 +11,7 @@ use Rattle.pbs_ast.specs.declared.syntax.Prod.{Prod}
 use Rattle.pbs_ast.specs.declared.syntax.Kind as kind
 use Rattle.pbs_ast.specs.declared.syntax.Kind.{Row_of-Expr, end_of-Expr, more_of-Expr, items-the_row-Expr}
 use Rattle.pbs_ast.specs.declared.syntax.Kind.TheBlock.{hidden-the_row-Expr-0}
-use Rattle.pbs_read.specs.Bare.{bare_term, bare_kind, bare_exprs, bare_expr, bare_prod}
+use Rattle.pbs_text.specs.Bare.{bare_term, bare_kind, bare_exprs, bare_expr, bare_prod}
 use Rattle.pbs_rules.specs.Naming.{body_of}
 use Rattle.pbs_rules.specs.Forms as forms
 use Rattle.pbs_rules.specs.Forms.{Form, form, expr_of}

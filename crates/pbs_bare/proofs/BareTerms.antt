@@ -7,7 +7,7 @@ use Rattle.pbs_ast.specs.declared.syntax.SpecTerm as terms
 use Rattle.pbs_ast.specs.declared.syntax.SpecTerm.{SpecTerm, Row_of-SpecTerm, end_of-SpecTerm, more_of-SpecTerm}
 use Rattle.pbs_ast.specs.declared.syntax.SpecTerm.{items-the_row-SpecTerm}
 use Rattle.pbs_ast.specs.declared.syntax.SpecTerm.TheBlock.{hidden-the_row-SpecTerm-0}
-use Rattle.pbs_read.specs.Bare.{bare_term, bare_terms}
+use Rattle.pbs_text.specs.Bare.{bare_term, bare_terms}
 use Rattle.pbs_expand.specs.declared.terms.Connective.TheVariants.{AndOf, OrOf}
 use Rattle.pbs_expand.specs.Written.{written, written_row, joined}
 use Rattle.pbs_bare.proofs.Rows.{terms_of_row}

@@ -7,7 +7,7 @@ use Rattle.pbs_ast.specs.declared.syntax.Expr.{Expr}
 use Rattle.pbs_ast.specs.declared.syntax.Kind.{Row_of-Expr, end_of-Expr, more_of-Expr}
 use Rattle.pbs_ast.specs.declared.syntax.Kind.{items-the_row-Expr, items_hidden-the_row-Expr-0}
 use Rattle.pbs_ast.specs.declared.syntax.Kind.TheBlock.{hidden-the_row-Expr-0}
-use Rattle.pbs_read.specs.Bare.{expr, bare_term, bare_terms, bare_kind, bare_exprs, bare_expr}
+use Rattle.pbs_text.specs.Bare.{expr, bare_term, bare_terms, bare_kind, bare_exprs, bare_expr}
 
 -- the items of a row that is made of a list
 pub terms_of_row : (xs : List SpecTerm) → items-the_row-SpecTerm _ (hidden-the_row-SpecTerm-0 xs) ≡ xs

@@ -7,7 +7,7 @@ use Rattle.pbs_ast.specs.declared.syntax.SpecTerm.{SpecTerm}
 use Rattle.pbs_ast.specs.declared.syntax.Expr.{Expr}
 use Rattle.pbs_ast.specs.declared.syntax.Prod.{Prod}
 use Rattle.pbs_ast.specs.declared.syntax.Spec.{Spec}
-use Rattle.pbs_read.specs.Bare.{bare, bare_expr, bare_prod}
+use Rattle.pbs_text.specs.Bare.{bare, bare_expr, bare_prod}
 use Rattle.pbs_rules.specs.Forms.{Form, Star, Plus, Scope, Terminal, Action, Repeat, form, Stands}
 use Rattle.pbs_rules.specs.Reach.{LiesIn, MayBeEmpty, HasTerminal, HasAction, HasScope}
 use Rattle.pbs_rules.specs.Moving.{Rule9, EmptyStar, EmptyPlus}

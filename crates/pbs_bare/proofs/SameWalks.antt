@@ -3,7 +3,7 @@ use Rattle.std.proofs.Common.{◌≡◌, ℕ, zero, suc, Result, Ok, Err, refl, 
 use Rattle.std.specs.Prelude.{◌↔◌}
 use Rattle.pbs_ast.specs.declared.main_tree.Main.{Main}
 use Rattle.pbs_ast.specs.declared.syntax.Spec.{Spec}
-use Rattle.pbs_read.specs.Bare.{bare}
+use Rattle.pbs_text.specs.Bare.{bare}
 use Rattle.pbs_expand.specs.Parts as nodes
 use Rattle.pbs_expand.specs.Parts.{Part, Shape, Whole, shape}
 use Rattle.pbs_expand.specs.Walks.{Walk, Beyond, Terminal, Name, Star, Hold, Pair, Scope, walk, walked}

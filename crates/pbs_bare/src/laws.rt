@@ -8,7 +8,7 @@ ghost use Rattle.pbs_check.specs.Checked.{Checks, IsBroken, IsFirst};
 ghost use Rattle.pbs_check.specs.declared.failure.Check.{Check};
 ghost use Rattle.pbs_expand.specs.Expanded.{Gives, expanded, refusal};
 ghost use Rattle.pbs_expand.specs.declared.failure.Expand.{Expand};
-ghost use Rattle.pbs_read.specs.Bare.{bare};
+ghost use Rattle.pbs_text.specs.Bare.{bare};
 
 /// A specification and the same one with its boxes at one place break the same rules at the same spans. So the same
 /// rule is the first that is broken, and the same answers of the checks are right.

@@ -10,7 +10,7 @@ use Rattle.pbs_ast.specs.declared.syntax.Prod.{Prod}
 use Rattle.pbs_ast.specs.declared.syntax.Kind.{Seq, Choice}
 use Rattle.pbs_rules.specs.Forms.{form, form_of}
 use Rattle.pbs_check.specs.declared.graph.Link.{Link}
-use Rattle.pbs_check.specs.Links.{own_links, links_in, links_of, HasUser, By}
+use Rattle.pbs_check.specs.Links.{own_links, links_in, links_of, HasNext, By}
 use Rattle.pbs_check.specs.Walking.{below_kind, inside, inside_all}
 use Rattle.pbs_check.proofs.LeastLemmas.{first_item, no_item, item_cases}
 use Rattle.pbs_check.proofs.WalkLemmas.{item_at, below_seq, below_choice}
@@ -79,7 +79,7 @@ get_at (y ∷ xs) (suc i) x within is = get_at xs i x (omega (arith, within)) is
 -- ---- one user more
 pub user_kept : (users : List (Vec ℕ)) (used user : ℕ) (old new : Vec ℕ) → used < length users
     → old ≡ get_or users used old → new.items ≡ old.items ++ user ∷ []
-    → (k u : ℕ) → HasUser users k u → HasUser (set users used new) k u
+    → (k u : ℕ) → HasNext users k u → HasNext (set users used new) k u
 user_kept users used user old new within is grown k u (By {v = v} at here) = elim (eqb_tells k used) [
   | inl (_, same) ↦
       let there : Some old ≡ Some v = sym (get_at users used old within is) ∙ sym (ap (slice_get users) same) ∙ at in
@@ -91,7 +91,7 @@ user_kept users used user old new within is grown k u (By {v = v} at here) = eli
 ]
 
 pub user_added : (users : List (Vec ℕ)) (used user : ℕ) (old new : Vec ℕ) → used < length users
-    → new.items ≡ old.items ++ user ∷ [] → HasUser (set users used new) used user
+    → new.items ≡ old.items ++ user ∷ [] → HasNext (set users used new) used user
 user_added users used user old new within grown =
     let P : List ℕ → Type 0 = λ xs. Contains xs user in
     By (get_set_same users used new within) (subst P (sym grown)
@@ -99,7 +99,7 @@ user_added users used user old new within grown =
 
 pub user_only : (users : List (Vec ℕ)) (used user : ℕ) (old new : Vec ℕ) → used < length users
     → old ≡ get_or users used old → new.items ≡ old.items ++ user ∷ []
-    → (k u : ℕ) → HasUser (set users used new) k u → HasUser users k u ⊎ ((k ≡ used) × (u ≡ user))
+    → (k u : ℕ) → HasNext (set users used new) k u → HasNext users k u ⊎ ((k ≡ used) × (u ≡ user))
 user_only users used user old new within is grown k u (By {v = v} at here) = elim (eqb_tells k used) [
   | inl (_, same) ↦
       let there : Some new ≡ Some v = sym (get_set_same users used new within)

@@ -12,9 +12,11 @@ pub mod LimitRules
 pub mod MovingRules
 pub mod NamedLemmas
 pub mod RecursionLemmas
+pub mod RoundLemmas
 pub mod NumberLemmas
 pub mod SearchLemmas
 pub mod SettleLemmas
+pub mod TargetLemmas
 pub mod StandLemmas
 pub mod TwiceLemmas
 pub mod TwicePlaces

@@ -1,10 +1,9 @@
 -- Productions by their names and by their numbers.
-use Rattle.std.proofs.Common.{◌≡◌, ◌+◌, ℕ, zero, suc, ◌==◌, Bool, true, false, not, cond, inl, inr, List}
-use Rattle.std.proofs.Common.{[], ◌∷◌, ◌++◌, map, length, get_or, Option, Some, None, refl, sym, ap, subst, ◌∙◌, arith}
+use Rattle.std.proofs.Common.{◌≡◌, ◌+◌, ℕ, zero, suc, ◌==◌, Bool, true, false, cond, inl, inr, List}
+use Rattle.std.proofs.Common.{[], ◌∷◌, ◌++◌, map, length, Option, Some, None, refl, sym, ap, subst, ◌∙◌, arith}
 use Rattle.std.specs.Global.{Vec}
 use Rattle.std.specs.Prelude.{Contains, slice_get, if◌then◌else◌}
 use Rattle.std.specs.List.{position_from}
-use Rattle.std.specs.Option.{is_some}
 use Rattle.std.specs.Cmp.Lexicographic.{pointwise, same_text}
 use Rattle.std.proofs.lemmas.Option.{slice_get_within}
 use Rattle.std.proofs.lemmas.List.Elements.{Contains-append_cases, Contains-append_left, Contains-append_right}
@@ -16,18 +15,16 @@ use Rattle.pbs_ast.specs.declared.syntax.Spec.{Spec}
 use Rattle.pbs_rules.specs.Forms as forms
 use Rattle.pbs_rules.specs.Forms.{Form, form, parts}
 use Rattle.pbs_rules.specs.Naming.{index_of, prod_names, body_of}
-use Rattle.pbs_check.specs.declared.facts.Facts.{Facts}
 use Rattle.pbs_check.specs.declared.graph.Link.{Link}
 use Rattle.pbs_check.specs.Least.{IsLeast}
 use Rattle.pbs_check.specs.Links as links
-use Rattle.pbs_check.specs.Links.{link, link_to, own_links, links_in, links_of, AreLinks, IsMarked, HasUse, At}
-use Rattle.pbs_check.specs.Links.{IsClosed, IsPruned, Leads, Step, IsRecursive, Round, HasRecursion}
+use Rattle.pbs_check.specs.Links.{link, link_to, own_links, links_in, links_of, AreLinks, HasUse, At}
+use Rattle.pbs_check.specs.Links.{IsClosed, Leads, Step, IsRecursive, Round, HasRecursion}
 use Rattle.pbs_check.specs.Recursion.{IsWithin, Whole, OfPart, UsesAt, Here, Reaches, Arrived, ByUse, Rule8, Recursive}
-use Rattle.pbs_check.specs.Truth.{AreFirst, Settles}
+use Rattle.pbs_check.specs.Truth.{AreFirst}
 use Rattle.pbs_check.specs.Walking.{below, inside}
 use Rattle.pbs_check.proofs.LeastLemmas.{first_item, later_item, no_item, item_cases, least_same}
 use Rattle.pbs_check.proofs.NamedLemmas.{absent}
-use Rattle.pbs_check.proofs.RecursionLemmas.{loop_free}
 use Rattle.pbs_check.proofs.StandLemmas.{every, deeper, inner}
 
 -- ---- what stands in an expression
@@ -311,15 +308,15 @@ module _ (ps : List Prod) (uses : List (Vec Link)) (differ : AreDifferent (prod_
       Step (of_use from v.0 s q v.1 there v.2 (subst Q (sym v.3) (subst P e uses_it)))
       (reach_leads to p at v.0 v.1 via v.2 v.3 more)
 
-  size : length uses ≡ length ps
-  size =
+  pub uses_size : length uses ≡ length ps
+  uses_size =
       let both = ap length are in let a = mapped_length (λ (v : Vec Link). v.items) uses in
       let b = mapped_length (links_of (index_of (prod_names ps))) ps in
       sym a ∙ both ∙ b
 
   pub closed_uses : IsClosed uses
   closed_uses user used span uses_it = let is = use_of user used span uses_it in
-      let h = slice_get_within ps used is.q is.there in omega (arith, h, size)
+      let h = slice_get_within ps used is.q is.there in omega (arith, h, uses_size)
 
   -- a production that is part of a recursion
   record IsRoundOf (user : ℕ) (span : Span) : Type 0 where
@@ -347,25 +344,6 @@ module _ (ps : List Prod) (uses : List (Vec Link)) (differ : AreDifferent (prod_
       let v = via_at user p name here reaches in let P : List ℕ → Type 0 = λ n. UsesAt p.body n span in
       Round (of_use user v.0 span p v.1 here v.2 (subst P (sym v.3) uses_it))
       (reach_leads user p here v.0 v.1 name v.2 v.3 reaches)
-
-  -- what is known is part of no recursion
-  pub known_pruned : (known : List ℕ → Option Facts) (live : List Bool) → Settles ps known
-      → live ≡ map (λ (p : Prod). not (is_some (known p.name))) ps → IsPruned uses live
-  known_pruned known live settles is user span round =
-      let r = round_of user span round in
-      ap (λ bs. get_or bs user false) is ∙ unknown_at ps user r.p r.here (not_known r (known r.p.name) refl)
-    where
-      unknown_at : (xs : List Prod) (n : ℕ) (p : Prod) → slice_get xs n ≡ Some p → not (is_some (known p.name)) ≡ true
-          → get_or (map (λ (z : Prod). not (is_some (known z.name))) xs) n false ≡ true
-      unknown_at [] n p at h = cc
-      unknown_at (x ∷ xs) zero p at h = let e : x ≡ p = cc in ap (λ (z : Prod). not (is_some (known z.name))) e ∙ h
-      unknown_at (x ∷ xs) (suc n) p at h = unknown_at xs n p at h
-
-      not_known : (r : IsRoundOf user span) (o : Option Facts) → known r.p.name ≡ o
-          → not (is_some (known r.p.name)) ≡ true
-      not_known r None h = ap (λ o. not (is_some o)) h
-      not_known r (Some f) h = absurd (loop_free ps r.p.name (settles.settled r.p.name f h) r.p.body r.name span
-          (body_first user r.p r.here) r.uses_it r.reaches)
 
 pub rule_8_is : (spec : Spec) (uses : List (Vec Link)) (found : Option Span) → AreDifferent (prod_names spec.prods)
     → AreFirst spec.prods → AreLinks (index_of (prod_names spec.prods)) spec.prods uses

@@ -8,7 +8,7 @@ use Rattle.std.proofs.lemmas.Bool.Decides.{eqb_tells}
 use Rattle.std.proofs.lemmas.List.Elements.{Contains-append_cases, Contains-append_left, Contains-append_right}
 use Rattle.pbs_base.specs.declared.refusal.Span.{Span}
 use Rattle.pbs_check.specs.declared.graph.Link.{Link}
-use Rattle.pbs_check.specs.Links.{link, HasUse, At, HasUser, By, AreUsers, AddsUsers}
+use Rattle.pbs_check.specs.Links.{link, HasUse, At, HasNext, By, AreUsers, AddsUsers}
 use Rattle.pbs_check.proofs.LeastLemmas.{first_item, no_item, item_cases}
 use Rattle.pbs_check.proofs.GraphLemmas.{get_at}
 
@@ -62,9 +62,9 @@ adds_none user users = record {
 
 pub adds_step : (links : List Link) (i : ℕ) (l : Link) (user : ℕ) (first old new : List (Vec ℕ)) → i < length links
     → l ≡ get_or links i l → AddsUsers (take i links) user first old
-    → length new ≡ length old → ((k u : ℕ) → HasUser old k u → HasUser new k u)
-    → (l.to < length old → HasUser new l.to user)
-    → ((k u : ℕ) → HasUser new k u → HasUser old k u ⊎ ((k ≡ l.to) × (u ≡ user)))
+    → length new ≡ length old → ((k u : ℕ) → HasNext old k u → HasNext new k u)
+    → (l.to < length old → HasNext new l.to user)
+    → ((k u : ℕ) → HasNext new k u → HasNext old k u ⊎ ((k ≡ l.to) × (u ≡ user)))
     → AddsUsers (take (i + 1) links) user first new
 adds_step links i l user first old new within is so_far size kept added only = record {
   size = size ∙ so_far.size;
@@ -72,7 +72,7 @@ adds_step links i l user first old new within is so_far size kept added only = r
   added = λ k span here below. elim (taken_cases links i l (link k span) within is here) [
     | inl before ↦ kept k user (so_far.added k span before below)
     | inr this ↦
-        let e : l.to ≡ k = ap (λ (x : Link). x.to) this in let P : ℕ → Type 0 = λ n. HasUser new n user in
+        let e : l.to ≡ k = ap (λ (x : Link). x.to) this in let P : ℕ → Type 0 = λ n. HasNext new n user in
         subst P e (added (omega (arith, e, below, so_far.size)))
   ];
   only = λ k u here. elim (only k u here) [
@@ -90,12 +90,12 @@ adds_step links i l user first old new within is so_far size kept added only = r
 -- ---- the users of the productions below a number
 pub record UsersTo (uses : List (Vec Link)) (n : ℕ) (users : List (Vec ℕ)) : Type 0 where
   pub size : length users ≡ length uses
-  pub sound : (used user : ℕ) → HasUser users used user → (span : Span) × HasUse uses user used span
+  pub sound : (used user : ℕ) → HasNext users used user → (span : Span) × HasUse uses user used span
   pub complete : (used user : ℕ) (span : Span) → HasUse uses user used span → user < n → used < length uses
-      → HasUser users used user
+      → HasNext users used user
 
 pub users_none : (uses : List (Vec Link)) (users : List (Vec ℕ)) → length users ≡ length uses
-    → ((k u : ℕ) → HasUser users k u → ⊥) → UsersTo uses 0 users
+    → ((k u : ℕ) → HasNext users k u → ⊥) → UsersTo uses 0 users
 users_none uses users size none = record {
   size = size;
   sound = λ used user here. absurd (none used user here);
@@ -130,7 +130,7 @@ users_step uses n links old new within is so_far adds = record {
   complete = λ used user span here few below. elim (below_cases user n few) [
     | inl earlier ↦ adds.kept used user (so_far.complete used user span here earlier below)
     | inr same ↦
-        let P : ℕ → Type 0 = λ u. HasUse uses u used span in let Q : ℕ → Type 0 = HasUser new used in
+        let P : ℕ → Type 0 = λ u. HasUse uses u used span in let Q : ℕ → Type 0 = HasNext new used in
         subst Q (sym same) (adds.added used span (at_number uses n used span links (get_at uses n links within is)
         (subst P same here)) (omega (arith, below, so_far.size)))
   ];
@@ -147,8 +147,8 @@ users_all uses n users all so_far = record {
     below {user = user} (At {v = v} at here) = let h = slice_get_within uses user v at in omega (arith, h, all)
 
 -- ---- lists that have nothing
-pub nothing_more : (lists : List (Vec ℕ)) (new : Vec ℕ) → new.items ≡ [] → ((k u : ℕ) → HasUser lists k u → ⊥)
-    → (k u : ℕ) → HasUser (lists ++ new ∷ []) k u → ⊥
+pub nothing_more : (lists : List (Vec ℕ)) (new : Vec ℕ) → new.items ≡ [] → ((k u : ℕ) → HasNext lists k u → ⊥)
+    → (k u : ℕ) → HasNext (lists ++ new ∷ []) k u → ⊥
 nothing_more lists new empty none k u (By {v = v} at here) = elim (appended lists k at) [
   | inl before ↦ none k u (By before here)
   | inr this ↦ let P : Vec ℕ → Type 0 = λ w. Contains w.items u in let Q : List ℕ
@@ -162,7 +162,7 @@ nothing_more lists new empty none k u (By {v = v} at here) = elim (appended list
     appended (x ∷ xs) zero at = inl at
     appended (x ∷ xs) (suc k) at = appended xs k at
 
-pub no_lists : (k u : ℕ) → HasUser [] k u → ⊥
+pub no_lists : (k u : ℕ) → HasNext [] k u → ⊥
 no_lists k u (By at here) = cc
 
 -- an item that was copied out of a list

@@ -1,4 +1,5 @@
 pub mod Checked
+pub mod Circles
 pub mod Declaring
 pub mod Facts
 pub mod Least

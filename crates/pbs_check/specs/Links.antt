@@ -1,7 +1,7 @@
 -- Inner definitions, which no public clause cites: productions by their numbers, and how they use each
 -- other.
-use Rattle.std.specs.Prelude.{◌≡◌, ◌<◌, ℕ, ◌⊎◌, length, Bool, true, false, Option, Some, None, List, [], ◌∷◌, ◌++◌, map}
-use Rattle.std.specs.Prelude.{slice_get, slice_index_or, Contains}
+use Rattle.std.specs.Prelude.{◌≡◌, ◌<◌, ℕ, ◌⊎◌, length, Option, Some, None, List, [], ◌∷◌, ◌++◌, map, slice_get}
+use Rattle.std.specs.Prelude.{Contains}
 use Rattle.std.specs.Global.{Vec}
 use Rattle.pbs_base.specs.declared.refusal.Span.{Span}
 use Rattle.pbs_ast.specs.declared.syntax.Expr.{Expr}
@@ -36,34 +36,39 @@ links_of number p = links_in number (inside p.body)
 abbrev pub AreLinks : (List ℕ → Option ℕ) → List Prod → List (Vec Link) → Type 0
 AreLinks number prods uses = map (λ (v : Vec Link). v.items) uses ≡ map (links_of number) prods
 
-abbrev pub IsMarked : List Bool → ℕ → Type 0
-IsMarked marks k = slice_index_or marks k false ≡ true
-
 -- the production of one number uses that of another, and the place
 pub data HasUse (uses : List (Vec Link)) (user used : ℕ) (span : Span) : Type 0 where
   At : {v : Vec Link} → slice_get uses user ≡ Some v → Contains v.items (link used span) → HasUse uses user used span
 
--- the production of one number is used by that of another, as the other table has it
-pub data HasUser (users : List (Vec ℕ)) (used user : ℕ) : Type 0 where
-  By : {v : Vec ℕ} → slice_get users used ≡ Some v → Contains v.items user → HasUser users used user
+-- another number stands in the list of one
+pub data HasNext (lists : List (Vec ℕ)) (number next : ℕ) : Type 0 where
+  By : {v : Vec ℕ} → slice_get lists number ≡ Some v → Contains v.items next → HasNext lists number next
 
--- the two tables say the same
+-- the lists have the users of each production
 pub record AreUsers (uses : List (Vec Link)) (users : List (Vec ℕ)) : Type 0 where
-  pub sound : (used user : ℕ) → HasUser users used user → (span : Span) × HasUse uses user used span
+  pub sound : (used user : ℕ) → HasNext users used user → (span : Span) × HasUse uses user used span
   pub complete : (used user : ℕ) (span : Span) → HasUse uses user used span → used < length uses
-      → HasUser users used user
+      → HasNext users used user
 
 -- the table has the uses of the production, and what it had
 pub record AddsUsers (links : List Link) (user : ℕ) (old new : List (Vec ℕ)) : Type 0 where
   pub size : length new ≡ length old
-  pub kept : (k u : ℕ) → HasUser old k u → HasUser new k u
-  pub added : (k : ℕ) (span : Span) → Contains links (link k span) → k < length old → HasUser new k user
-  pub only : (k u : ℕ) → HasUser new k u → HasUser old k u ⊎ ((u ≡ user)
+  pub kept : (k u : ℕ) → HasNext old k u → HasNext new k u
+  pub added : (k : ℕ) (span : Span) → Contains links (link k span) → k < length old → HasNext new k user
+  pub only : (k u : ℕ) → HasNext new k u → HasNext old k u ⊎ ((u ≡ user)
       × ((span : Span) × Contains links (link k span)))
+
+abbrev pub targets_of : List Link → List ℕ
+targets_of = map (λ (l : Link). l.to)
+
+-- the uses without their places
+abbrev pub AreTargets : List (Vec Link) → List (Vec ℕ) → Type 0
+AreTargets uses targets = map (λ (v : Vec ℕ). v.items) targets ≡ map (λ (v : Vec Link). targets_of v.items) uses
 
 -- the tables of the specification's productions
 pub record IsGraph (prods : List Prod) (graph : Graph) : Type 0 where
   pub uses : AreLinks (index_of (prod_names prods)) prods graph.uses.items
+  pub targets : AreTargets graph.uses.items graph.targets.items
   pub users : AreUsers graph.uses.items graph.users.items
 
 -- from one production another can be reached by uses, in no step or more
@@ -78,10 +83,6 @@ pub data IsRecursive (uses : List (Vec Link)) (user : ℕ) (span : Span) : Type 
 -- each use is of a production of the table
 abbrev pub IsClosed : List (Vec Link) → Type 0
 IsClosed uses = (user used : ℕ) (span : Span) → HasUse uses user used span → used < length uses
-
--- what is not marked is part of no recursion
-abbrev pub IsPruned : List (Vec Link) → List Bool → Type 0
-IsPruned uses live = (user : ℕ) (span : Span) → IsRecursive uses user span → IsMarked live user
 
 -- a use at which some production is part of a recursion
 pub data HasRecursion (uses : List (Vec Link)) (span : Span) : Type 0 where

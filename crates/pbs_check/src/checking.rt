@@ -49,9 +49,9 @@ fn check_recursion(alloc: Global, spec: &Spec, tables: &mut Tables) -> Result<()
     ensures known { OnOk result (IsKnown spec.now tables.new) }
 {
     let graph = Graph::new(alloc, &spec.prods, &tables.prods)?;
-    let order = order_of(alloc, graph.users.as_slice())?;
+    let order = order_of(alloc, graph.targets.as_slice())?;
     tables.known = settle(alloc, &spec.prods, order.as_slice())?;
-    refuse(8, rule_8(alloc, &graph, tables, spec)?)
+    refuse(8, rule_8(alloc, spec, &graph, order.as_slice())?)
 }
 
 /// Rules 9 to 11, 18 and 19.

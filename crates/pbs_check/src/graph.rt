@@ -2,7 +2,8 @@
 ghost use Rattle.std.specs.Prelude.{◌≡◌, ◌<◌, ◌++◌, ℕ, ◌⊎◌, length, IfOk, OnOk};
 ghost use Rattle.pbs_rules.specs.Numbers.{number_in};
 ghost use Rattle.pbs_check.specs.Walking.{inside, inside_all};
-ghost use Rattle.pbs_check.specs.Links.{link_to, links_in, links_of, AreLinks, HasUser, AreUsers, AddsUsers};
+ghost use Rattle.pbs_check.specs.Links.{link_to, links_in, links_of, AreLinks, HasNext, AreUsers, AddsUsers};
+ghost use Rattle.pbs_check.specs.Links.{targets_of, AreTargets};
 
 use pbs_ast::{Expr, Items, Kind, Prods};
 use pbs_base::{Memory, Span, Word};
@@ -16,10 +17,11 @@ pub struct Link {
     pub span: Span,
 }
 
-/// Of each production those that it uses, and those that use it.
+/// Of each production those that it uses, the same without the places, and those that use it.
 #[derive(Drop)]
 pub struct Graph {
     pub uses: Vec<Vec<Link>>,
+    pub targets: Vec<Vec<usize>>,
     pub users: Vec<Vec<usize>>,
 }
 
@@ -80,13 +82,33 @@ fn uses_of(alloc: Global, prods: &Prods, numbers: &Numbers) -> Result<Vec<Vec<Li
     Ok(uses)
 }
 
+fn targets_of(alloc: Global, links: &[Link]) -> Result<Vec<usize>, Memory>
+    ensures { IfOk result (λ targets. targets.items ≡ targets_of links.now) }
+{
+    let mut targets = Vec::new(alloc);
+    for link in links {
+        targets.push(link.to)?;
+    }
+    Ok(targets)
+}
+
+fn all_targets(alloc: Global, uses: &[Vec<Link>]) -> Result<Vec<Vec<usize>>, Memory>
+    ensures { IfOk result (λ targets. AreTargets uses.now targets.items) }
+{
+    let mut targets = Vec::new(alloc);
+    for links in uses {
+        targets.push(targets_of(alloc, links.as_slice())?)?;
+    }
+    Ok(targets)
+}
+
 /// Adds a user of a production.
 fn push_user(users: &mut Vec<Vec<usize>>, used: usize, user: usize) -> Result<(), Memory>
     ensures size { OnOk result (length users.new.items ≡ length users.old.items) }
-    ensures kept { OnOk result ((k u : ℕ) → HasUser users.old.items k u → HasUser users.new.items k u) }
-    ensures added { OnOk result (used < length users.old.items → HasUser users.new.items used user) }
-    ensures only { OnOk result ((k u : ℕ) → HasUser users.new.items k u
-        → HasUser users.old.items k u ⊎ ((k ≡ used) × (u ≡ user))) }
+    ensures kept { OnOk result ((k u : ℕ) → HasNext users.old.items k u → HasNext users.new.items k u) }
+    ensures added { OnOk result (used < length users.old.items → HasNext users.new.items used user) }
+    ensures only { OnOk result ((k u : ℕ) → HasNext users.new.items k u
+        → HasNext users.old.items k u ⊎ ((k ≡ used) × (u ≡ user))) }
 {
     if let Some(list) = users.get_mut(used) {
         list.push(user)?;
@@ -105,7 +127,7 @@ fn push_users(users: &mut Vec<Vec<usize>>, links: &[Link], user: usize) -> Resul
 
 fn empty_lists(alloc: Global, count: usize) -> Result<Vec<Vec<usize>>, Memory>
     ensures size { IfOk result (λ lists. length lists.items ≡ count) }
-    ensures none { IfOk result (λ lists. (k u : ℕ) → HasUser lists.items k u → ⊥) }
+    ensures none { IfOk result (λ lists. (k u : ℕ) → HasNext lists.items k u → ⊥) }
 {
     let mut lists = Vec::new(alloc);
     for _number in 0..count {
@@ -134,7 +156,12 @@ impl Graph {
         ensures { IfOk result (IsGraph prods.now) }
     {
         let uses = uses_of(alloc, prods, numbers)?;
+        let targets = all_targets(alloc, uses.as_slice())?;
         let users = users_of(alloc, uses.as_slice())?;
-        Ok(Graph { uses, users })
+        Ok(Graph {
+            uses,
+            targets,
+            users,
+        })
     }
 }

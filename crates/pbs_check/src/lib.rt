@@ -2,6 +2,7 @@
 #![tactic(auto)]
 
 mod checking;
+mod circles;
 mod declaring;
 mod facts;
 mod failure;

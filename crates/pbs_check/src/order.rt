@@ -1,82 +1,82 @@
-// Numbers in an order in which each stands after those that lead to it. The order saves time and decides nothing: what
-// is learnt in it is proved of any order.
-use crate::graph::Link;
+// An order in which each number stands after those to which it leads, as far as no circle forbids it. The order saves
+// time and decides nothing: what is found in it is proved of any order.
 use pbs_base::Memory;
 use std::alloc::Global;
 
-fn count_all(list: &[usize], counts: &mut Vec<usize>) {
+#[derive(Clone, Copy)]
+enum Step {
+    Enter(usize),
+    Leave(usize),
+}
+
+/// A walk in depth: what was entered, the steps still to take, the last first, and what was left, in order.
+#[derive(Drop)]
+struct Walk {
+    entered: Vec<bool>,
+    steps: Vec<Step>,
+    order: Vec<usize>,
+}
+
+fn enter_all(steps: &mut Vec<Step>, list: &[usize]) -> Result<(), Memory> {
     for number in list {
-        if *number < counts.len() {
-            counts[*number] = counts[*number].saturating_add(1);
-        }
-    }
-}
-
-/// How many times each number stands in the lists.
-fn counts_of(alloc: Global, next: &[Vec<usize>]) -> Result<Vec<usize>, Memory> {
-    let mut counts = vec![in alloc; 0usize; next.len()]?;
-    for list in next {
-        count_all(list.as_slice(), &mut counts);
-    }
-    Ok(counts)
-}
-
-fn free_ones(alloc: Global, counts: &[usize]) -> Result<Vec<usize>, Memory> {
-    let mut order = Vec::new(alloc);
-    for (number, count) in counts.iter().enumerate() {
-        if *count == 0 {
-            order.push(number)?;
-        }
-    }
-    Ok(order)
-}
-
-/// Takes one from the count of a number, and adds the number where nothing is left.
-fn take_one(counts: &mut Vec<usize>, number: usize, order: &mut Vec<usize>) -> Result<(), Memory> {
-    if number < counts.len() && counts[number] != 0 {
-        counts[number] -= 1;
-        if counts[number] == 0 {
-            order.push(number)?;
-        }
+        steps.push(Step::Enter(*number))?;
     }
     Ok(())
 }
 
-fn take_all(list: &[usize], counts: &mut Vec<usize>, order: &mut Vec<usize>) -> Result<(), Memory> {
-    for number in list {
-        take_one(counts, *number, order)?;
+impl Walk {
+    fn new(alloc: Global, count: usize) -> Result<Walk, Memory> {
+        let mut steps = Vec::new(alloc);
+        for number in 0..count {
+            steps.push(Step::Enter(number))?;
+        }
+        Ok(Walk {
+            entered: vec![in alloc; false; count]?,
+            steps,
+            order: Vec::new(alloc),
+        })
     }
-    Ok(())
+
+    fn enter(&mut self, number: usize, list: &[usize]) -> Result<(), Memory> {
+        if number < self.entered.len() && !self.entered[number] {
+            self.entered[number] = true;
+            self.steps.push(Step::Leave(number))?;
+            enter_all(&mut self.steps, list)?;
+        }
+        Ok(())
+    }
+
+    fn take(&mut self, step: Step, lists: &[Vec<usize>]) -> Result<(), Memory> {
+        match step {
+            Step::Leave(number) => {
+                self.order.push(number)?;
+                Ok(())
+            }
+            Step::Enter(number) => match lists.get(number) {
+                Some(list) => self.enter(number, list.as_slice()),
+                None => Ok(()),
+            },
+        }
+    }
 }
 
-/// The numbers, each after all in whose lists it stands. Those of circles and those behind them are left out.
-pub(crate) fn order_of(alloc: Global, next: &[Vec<usize>]) -> Result<Vec<usize>, Memory> {
-    let mut counts = counts_of(alloc, next)?;
-    let mut order = free_ones(alloc, counts.as_slice())?;
-    for place in 0..next.len() {
-        let Some(number) = order.get(place).copied() else {
-            return Ok(order);
+/// How many steps a walk over the lists takes.
+fn count_steps(lists: &[Vec<usize>]) -> usize {
+    let mut count = 0usize;
+    for list in lists {
+        count = count.saturating_add(list.len()).saturating_add(2);
+    }
+    count
+}
+
+/// The numbers of the lists, each after those in its list.
+pub(crate) fn order_of(alloc: Global, lists: &[Vec<usize>]) -> Result<Vec<usize>, Memory> {
+    let mut walk = Walk::new(alloc, lists.len())?;
+    for _step in 0..count_steps(lists) {
+        let Some(step) = walk.steps.pop() else {
+            return Ok(walk.order);
         };
-        if let Some(list) = next.get(number) {
-            take_all(list.as_slice(), &mut counts, &mut order)?;
-        }
+        walk.take(step, lists)?;
     }
-    Ok(order)
-}
-
-fn targets_of(alloc: Global, links: &[Link]) -> Result<Vec<usize>, Memory> {
-    let mut list = Vec::new(alloc);
-    for link in links {
-        list.push(link.to)?;
-    }
-    Ok(list)
-}
-
-/// Of each production those that it uses, without the places.
-pub(crate) fn targets(alloc: Global, uses: &[Vec<Link>]) -> Result<Vec<Vec<usize>>, Memory> {
-    let mut lists = Vec::new(alloc);
-    for links in uses {
-        lists.push(targets_of(alloc, links.as_slice())?)?;
-    }
-    Ok(lists)
+    Ok(walk.order)
 }

@@ -5,18 +5,16 @@ ghost use Rattle.pbs_check.specs.Least.{IsLeast};
 ghost use Rattle.pbs_check.specs.Stages.{IsTables};
 ghost use Rattle.pbs_base.specs.Words.{AreDifferent};
 ghost use Rattle.pbs_rules.specs.Naming.{prod_names};
-ghost use Rattle.pbs_check.specs.Facts.{known_of};
 ghost use Rattle.pbs_check.specs.Links.{IsGraph};
 ghost use Rattle.pbs_check.specs.Recursion.{Rule8};
-ghost use Rattle.pbs_check.specs.Truth.{AreFirst, IsKnown, Settles};
+ghost use Rattle.pbs_check.specs.Truth.{AreFirst, IsKnown};
 ghost use Rattle.pbs_rules.specs.Moving.{Rule9, Rule10};
 ghost use Rattle.pbs_check.specs.Using.{Rule6, Rule7, Rule18, Rule19};
 
+use crate::circles::Circles;
 use crate::declaring::{found_over, found_twice};
 use crate::graph::Graph;
-use crate::order::{order_of, targets};
-use crate::recursion::{least_recursion, prune};
-use crate::settling::unknown_prods;
+use crate::recursion::least_recursion;
 use crate::uses::{Look, Tables};
 use crate::walks::found_in;
 use pbs_ast::Spec;
@@ -67,24 +65,20 @@ pub(crate) fn rule_19(tables: &Tables, spec: &Spec) -> Option<Span>
     found_in(Look::Copies, tables, spec)
 }
 
-/// Productions that use each other. Those of which something is known don't.
+/// Productions that use each other. The order is best with users after those that they use.
 pub(crate) fn rule_8(
     alloc: Global,
-    graph: &Graph,
-    tables: &Tables,
     spec: &Spec,
+    graph: &Graph,
+    order: &[usize],
 ) -> Result<Option<Span>, Memory>
     requires different { AreDifferent (prod_names spec.now.prods) }
     requires first { AreFirst spec.now.prods }
     requires graph { IsGraph spec.now.prods graph.now }
-    requires settles { Settles spec.now.prods (known_of tables.now.known) }
     ensures { IfOk result (IsLeast (Rule8 spec.now)) }
 {
-    let mut marks = unknown_prods(alloc, &tables.known, &spec.prods)?;
-    let targets = targets(alloc, graph.uses.as_slice())?;
-    let order = order_of(alloc, targets.as_slice())?;
-    prune(graph, order.as_slice(), &mut marks);
-    least_recursion(alloc, graph, marks.as_slice())
+    let circles = Circles::find_all(alloc, graph, order, spec.prods.len())?;
+    Ok(least_recursion(graph.uses.as_slice(), circles.roots.as_slice()))
 }
 
 /// A star or plus whose body may be empty.

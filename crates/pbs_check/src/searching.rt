@@ -1,107 +1,117 @@
-// A search back along uses, for all productions from which one can be reached.
-ghost use Rattle.std.specs.Prelude.{◌≡◌, ◌<◌, ℕ, false, length, slice_index_or, Contains, IfOk, OnOk};
-ghost use Rattle.pbs_check.specs.Links.{HasUser, IsMarked};
-ghost use Rattle.pbs_check.specs.Searching.{AreReaching, Grows, IsSearch};
+// A search along lists of numbers, for all to which one of them leads.
+ghost use Rattle.std.specs.Prelude.{◌≡◌, ◌<◌, ◌↔◌, ℕ, IsTrue, None, Some, length, slice_get, Contains, IfOk, OnOk};
+ghost use Rattle.pbs_check.specs.Links.{HasNext};
+ghost use Rattle.pbs_check.specs.Searching.{Grows, IsMarked, Spreads};
 
 use pbs_base::Memory;
 use std::alloc::Global;
 
-/// Which productions were reached, and their numbers in order.
+/// Of each number the one from which it was reached last, and what this search reached, in order.
 #[derive(Drop)]
 pub struct Search {
-    marks: Vec<bool>,
+    marks: Vec<Option<usize>>,
     reached: Vec<usize>,
 }
 
-/// The mark of that number, false where there is none.
-pub(crate) fn is_marked(marks: &[bool], number: usize) -> bool
-    ensures { result ≡ slice_index_or marks.now number false }
+/// Whether the number is there and has that label.
+pub(crate) fn has_label(labels: &[Option<usize>], number: usize, label: Option<usize>) -> bool
+    ensures { IsTrue result ↔ (slice_get labels.now number ≡ Some label) }
 {
-    if number < marks.len() {
-        marks[number]
-    } else {
-        false
-    }
+    number < labels.len() && labels[number] == label
 }
 
-fn mark(search: &mut Search, number: usize) -> Result<(), Memory>
-    ensures grows { OnOk result (Grows (λ k. k ≡ number) search.old search.new) }
-    ensures marked { OnOk result (number < length search.old.marks.items → IsMarked search.new.marks.items number) }
+fn mark(search: &mut Search, root: usize, number: usize) -> Result<(), Memory>
+    ensures grows { OnOk result (Grows root (λ k. k ≡ number) search.old search.new) }
+    ensures marked { OnOk result (number < length search.old.marks.items
+        → IsMarked search.new.marks.items root number) }
 {
-    if number < search.marks.len() && !search.marks[number] {
-        search.marks[number] = true;
+    if number < search.marks.len() && search.marks[number] != Some(root) {
+        search.marks[number] = Some(root);
         search.reached.push(number)?;
     }
     Ok(())
 }
 
-fn mark_live(search: &mut Search, live: &[bool], number: usize) -> Result<(), Memory>
-    ensures grows { OnOk result (Grows (λ k. (k ≡ number) × IsMarked live.now k) search.old search.new) }
-    ensures marked { OnOk result (IsMarked live.now number → number < length search.old.marks.items
-        → IsMarked search.new.marks.items number) }
+fn mark_labelled(
+    search: &mut Search,
+    labels: &[Option<usize>],
+    label: Option<usize>,
+    root: usize,
+    number: usize,
+) -> Result<(), Memory>
+    ensures grows { OnOk result (Grows root (λ k. (k ≡ number) × (slice_get labels.now k ≡ Some label))
+        search.old search.new) }
+    ensures marked { OnOk result (slice_get labels.now number ≡ Some label
+        → number < length search.old.marks.items → IsMarked search.new.marks.items root number) }
 {
-    if is_marked(live, number) {
-        mark(search, number)
+    if has_label(labels, number, label) {
+        mark(search, root, number)
     } else {
         Ok(())
     }
 }
 
-fn mark_users(search: &mut Search, users: &[usize], live: &[bool]) -> Result<(), Memory>
-    ensures grows { OnOk result (Grows (λ k. Contains users.now k × IsMarked live.now k) search.old search.new) }
-    ensures marked { OnOk result ((u : ℕ) → Contains users.now u → IsMarked live.now u
-        → u < length search.old.marks.items → IsMarked search.new.marks.items u) }
+fn mark_all(
+    search: &mut Search,
+    list: &[usize],
+    labels: &[Option<usize>],
+    label: Option<usize>,
+    root: usize,
+) -> Result<(), Memory>
+    ensures grows { OnOk result (Grows root (λ k. Contains list.now k × (slice_get labels.now k ≡ Some label))
+        search.old search.new) }
+    ensures marked { OnOk result ((k : ℕ) → Contains list.now k → slice_get labels.now k ≡ Some label
+        → k < length search.old.marks.items → IsMarked search.new.marks.items root k) }
 {
-    for user in users {
-        mark_live(search, live, *user)?;
+    for number in list {
+        mark_labelled(search, labels, label, root, *number)?;
     }
     Ok(())
 }
 
-/// Marks the users of a production.
+/// Marks what follows a number.
 fn visit(
     search: &mut Search,
-    users: &[Vec<usize>],
-    live: &[bool],
+    lists: &[Vec<usize>],
+    labels: &[Option<usize>],
+    label: Option<usize>,
+    root: usize,
     number: usize,
 ) -> Result<(), Memory>
-    ensures grows { OnOk result (Grows (λ k. HasUser users.now number k × IsMarked live.now k) search.old search.new) }
-    ensures marked { OnOk result ((u : ℕ) → HasUser users.now number u → IsMarked live.now u
-        → u < length search.old.marks.items → IsMarked search.new.marks.items u) }
+    ensures grows { OnOk result (Grows root (λ k. HasNext lists.now number k × (slice_get labels.now k ≡ Some label))
+        search.old search.new) }
+    ensures marked { OnOk result ((k : ℕ) → HasNext lists.now number k → slice_get labels.now k ≡ Some label
+        → k < length search.old.marks.items → IsMarked search.new.marks.items root k) }
 {
-    match users.get(number) {
-        Some(list) => mark_users(search, list.as_slice(), live),
+    match lists.get(number) {
+        Some(list) => mark_all(search, list.as_slice(), labels, label, root),
         None => Ok(()),
     }
 }
 
-fn start(alloc: Global, count: usize) -> Result<Search, Memory>
-    ensures search { IfOk result IsSearch }
-    ensures size { IfOk result (λ search. length search.marks.items ≡ count) }
-    ensures none { IfOk result (λ search. (k : ℕ) → Contains search.reached.items k → ⊥) }
-{
-    Ok(Search {
-        marks: vec![in alloc; false; count]?,
-        reached: Vec::new(alloc),
-    })
-}
-
-/// Marks all productions from which one can be reached by uses of live ones.
-pub(crate) fn reaching(
+/// Marks all to which the root leads through numbers of that label.
+pub(crate) fn spread(
     alloc: Global,
-    users: &[Vec<usize>],
-    live: &[bool],
-    number: usize,
-) -> Result<Vec<bool>, Memory>
-    requires { number < length live.now }
-    ensures { IfOk result (λ marks. AreReaching users.now live.now number marks.items) }
+    lists: &[Vec<usize>],
+    labels: &[Option<usize>],
+    label: Option<usize>,
+    root: usize,
+    marks: Vec<Option<usize>>,
+) -> Result<Vec<Option<usize>>, Memory>
+    requires there { root < length marks.items }
+    requires size { length labels.now ≡ length marks.items }
+    requires none { (k : ℕ) → IsMarked marks.items root k → ⊥ }
+    ensures { IfOk result (λ new. Spreads lists.now labels.now label root marks.items new.items) }
 {
-    let mut search = start(alloc, live.len())?;
-    mark(&mut search, number)?;
+    let mut search = Search {
+        marks,
+        reached: Vec::new(alloc),
+    };
+    mark(&mut search, root, root)?;
     let mut next = 0;
     while next < search.reached.len() {
         let found = search.reached[next];
-        visit(&mut search, users, live, found)?;
+        visit(&mut search, lists, labels, label, root, found)?;
         next += 1;
     }
     Ok(search.marks)

@@ -1,6 +1,5 @@
 // Productions one after another, each once all is known of those that it uses.
-ghost use Rattle.std.specs.Prelude.{◌≡◌, ◌<◌, true, false, not, map, None, OnOk, IfOk, Contains};
-ghost use Rattle.std.specs.Option.{is_some};
+ghost use Rattle.std.specs.Prelude.{◌≡◌, ◌<◌, true, false, None, OnOk, IfOk, Contains};
 ghost use Rattle.pbs_check.specs.Facts.{known_of, expr_facts};
 ghost use Rattle.pbs_check.specs.Truth.{AreFirst, IsStuck, Settles, unknown_count};
 
@@ -89,19 +88,4 @@ pub(crate) fn settle(alloc: Global, prods: &Prods, order: &[usize]) -> Result<Kn
     learn_in_order(alloc, prods, order, &mut known)?;
     while learn_all(alloc, prods, &mut known)? {}
     Ok(known)
-}
-
-/// Marks the productions of which nothing is known.
-pub(crate) fn unknown_prods(
-    alloc: Global,
-    known: &Known,
-    prods: &Prods,
-) -> Result<Vec<bool>, Memory>
-    ensures { IfOk result (λ marks. marks.items ≡ map (λ p. not (is_some (known_of known.now p.name))) prods.now) }
-{
-    let mut marks = Vec::new(alloc);
-    for prod in prods.as_slice() {
-        marks.push(!known.facts.contains_key(&prod.name))?;
-    }
-    Ok(marks)
 }

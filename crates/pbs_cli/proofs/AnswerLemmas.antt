@@ -6,7 +6,7 @@ use Rattle.pbs_base.specs.Refusal.{refusal_line}
 use Rattle.pbs_base.specs.declared.refusal.Refusal.{Refusal}
 use Rattle.pbs_base.specs.declared.refusal.Subject.TheVariants.{Spec, Netlist}
 use Rattle.pbs_base.proofs.WrittenLemmas.{append_known-nil}
-use Rattle.pbs_read.specs.Answers.{ByLength}
+use Rattle.pbs_text.specs.Answers.{ByLength}
 use Rattle.vlog_text.specs.Reading as vlog
 use Rattle.pbs_engine.specs.Accepted.{Breaks, OnReading}
 use Rattle.pbs_cli.specs.Answers.{Answer, accepted, refused, Wrote, CutShort}

@@ -13,7 +13,7 @@ use Rattle.pbs_expand.specs.Visits.{Visit, visits, after_visits, first_over}
 use Rattle.pbs_expand.specs.Expanded.{nothing_yet, main_walk, expanded, over_limit, over_width, first_refusal, refusal}
 use Rattle.pbs_expand.proofs.Counted.{none_over}
 use Rattle.pbs_expand.proofs.Limits.{adds}
-use Rattle.pbs_read.proofs.Found.{both}
+use Rattle.pbs_lex.proofs.Found.{both}
 
 -- the counters are within the limits
 record IsWithin (c : Counters) : Type 0 where

@@ -7,21 +7,21 @@ use Rattle.std.proofs.lemmas.List.Folds.{list_all-append}
 use Rattle.std.proofs.lemmas.Bool.Decides.{nat_tests}
 use Rattle.pbs_ast.specs.declared.syntax.Decl.{Decl}
 use Rattle.pbs_ast.specs.declared.syntax.Spec.{Spec}
-use Rattle.pbs_read.specs.declared.token.Token.{Token}
-use Rattle.pbs_read.specs.Grammar.{token, OneBit, TwoBits, MoreBits, InputPhrase, OneWire, Bus, InputsPhrase}
-use Rattle.pbs_read.specs.Grammar.{OneInput, MoreInputs, NamesPhrase, OneName, MoreNames, DeclPhrase, InputDecl}
-use Rattle.pbs_read.specs.Grammar.{ActionDecl, LevelDecl, ProdDecl, DeclsPhrase, NoDecls, MoreDecls, input_tokens}
-use Rattle.pbs_read.specs.Grammar.{inputs_tokens, names_tokens, decl_tokens, decls_tokens, head_tokens, expr_tokens}
-use Rattle.pbs_read.specs.Grammar.{text_tokens, TextPhrase, OfVersion}
-use Rattle.pbs_read.specs.Trees.{word_at, declared, input_of, inputs_of, names_of, Declared, with_decl, declared_by}
-use Rattle.pbs_read.specs.Trees.{text_spec}
-use Rattle.pbs_read.specs.Lexing.{is_word_byte}
-use Rattle.pbs_read.specs.Answers.{StandsFor}
+use Rattle.pbs_text.specs.declared.token.Token.{Token}
+use Rattle.pbs_text.specs.Grammar.{token, OneBit, TwoBits, MoreBits, InputPhrase, OneWire, Bus, InputsPhrase}
+use Rattle.pbs_text.specs.Grammar.{OneInput, MoreInputs, NamesPhrase, OneName, MoreNames, DeclPhrase, InputDecl}
+use Rattle.pbs_text.specs.Grammar.{ActionDecl, LevelDecl, ProdDecl, DeclsPhrase, NoDecls, MoreDecls, input_tokens}
+use Rattle.pbs_text.specs.Grammar.{inputs_tokens, names_tokens, decl_tokens, decls_tokens, head_tokens, expr_tokens}
+use Rattle.pbs_text.specs.Grammar.{text_tokens, TextPhrase, OfVersion}
+use Rattle.pbs_text.specs.Trees.{word_at, declared, input_of, inputs_of, names_of, Declared, with_decl, declared_by}
+use Rattle.pbs_text.specs.Trees.{text_spec}
+use Rattle.pbs_text.specs.Lexing.{is_word_byte}
+use Rattle.pbs_text.specs.Answers.{StandsFor}
 use Rattle.pbs_rules.specs.Naming.{bit_name, bit_names, input_names, action_names}
 use Rattle.pbs_emit.specs.NameWords.{begins_word, IsWord, AreWords}
-use Rattle.pbs_read.proofs.Found.{pick, word_byte, FoundAs, AreFound, found_parts, tokens_found}
+use Rattle.pbs_lex.proofs.Found.{pick, word_byte, FoundAs, AreFound, found_parts, tokens_found}
 use Rattle.pbs_emit.proofs.Lists.{Each, each-append, each_at}
-use Rattle.pbs_read.specs.declared.token.TokenKind.TheVariants as kind
+use Rattle.pbs_text.specs.declared.token.TokenKind.TheVariants as kind
 use Rattle.pbs_rules.specs.Naming as naming
 
 -- ---- declarations

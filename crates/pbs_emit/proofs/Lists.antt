@@ -4,7 +4,7 @@ use Rattle.std.proofs.Common.{true, refl, subst, arith}
 use Rattle.std.specs.Prelude.{slice_get}
 use Rattle.std.specs.List.{list_all}
 use Rattle.std.proofs.lemmas.Option.{same_Some}
-use Rattle.pbs_read.proofs.Found.{both}
+use Rattle.pbs_lex.proofs.Found.{both}
 
 abbrev pub Each : {A : Type 0} → (A → Type 0) → List A → Type 0
 Each P [] = Unit {0}

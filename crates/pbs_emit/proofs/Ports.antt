@@ -5,7 +5,7 @@ use Rattle.std.specs.Prelude.{codes, slice_get}
 use Rattle.std.proofs.lemmas.Bool.Decides.{nat_tests}
 use Rattle.pbs_base.specs.Words.{AreDifferent}
 use Rattle.net_core.specs.Circuits.{Circuit, output_names}
-use Rattle.pbs_read.specs.Lexing.{is_word_byte}
+use Rattle.pbs_text.specs.Lexing.{is_word_byte}
 use Rattle.pbs_controller.specs.Ports.{ports_of}
 use Rattle.vlog_text.specs.Lexing.{is_name_byte}
 use Rattle.vlog_text.specs.PortNames.{IsPortName, port_names, HasPortNames}

@@ -3,7 +3,7 @@
 
 ghost use Rattle.std.specs.Prelude.{◌≡◌, ℕ, List, None};
 ghost use Rattle.pbs_ast.specs.declared.syntax.Spec.{Spec};
-ghost use Rattle.pbs_read.specs.Answers.{StandsFor};
+ghost use Rattle.pbs_text.specs.Answers.{StandsFor};
 ghost use Rattle.pbs_rules.specs.Naming.{action_names, input_names};
 ghost use Rattle.pbs_check.specs.Checked.{IsUnbroken};
 ghost use Rattle.pbs_expand.specs.Expanded.{expanded, refusal};

@@ -3,7 +3,7 @@ use Rattle.std.proofs.Common.{◌≡◌, ◌∙◌, ℕ, List, Option, Some, Non
 use Rattle.pbs_base.specs.declared.refusal.Span.{Span}
 use Rattle.pbs_base.specs.declared.refusal.Refusal.{Refusal}
 use Rattle.pbs_ast.specs.declared.syntax.Spec.{Spec}
-use Rattle.pbs_read.specs.Answers.{Answers, StandsFor}
+use Rattle.pbs_text.specs.Answers.{Answers, StandsFor}
 use Rattle.pbs_check.specs.Checked.{IsFirst, IsUnbroken}
 use Rattle.pbs_expand.specs.Expanded.{refusal}
 use Rattle.pbs_engine.specs.Accepted.{Breaks, OnReading, OnRules, OnExpansion, IsAccepted, IsRun, IsNotRun, Broken}

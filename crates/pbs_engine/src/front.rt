@@ -1,7 +1,7 @@
 // From the text of a specification to its tree.
 ghost use Rattle.std.specs.Prelude.{◌≡◌};
-ghost use Rattle.pbs_read.specs.Answers.{StandsFor};
-ghost use Rattle.pbs_read.specs.Bare.{bare};
+ghost use Rattle.pbs_text.specs.Answers.{StandsFor};
+ghost use Rattle.pbs_text.specs.Bare.{bare};
 ghost use Rattle.pbs_check.specs.Checked.{IsUnbroken};
 ghost use Rattle.pbs_engine.specs.Accepted.{Checks, Finds};
 
@@ -11,7 +11,8 @@ use pbs_bare::{same_expansion, same_rules};
 use pbs_check::laws::within_limits;
 use pbs_check::{Check, check_spec};
 use pbs_expand::{Expand, expand};
-use pbs_read::{ReadSpec, read_spec};
+use pbs_read::read_spec;
+use pbs_text::ReadSpec;
 use std::alloc::Global;
 
 /// A specification that breaks no rule, and its tree.

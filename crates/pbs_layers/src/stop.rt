@@ -4,7 +4,7 @@ use pbs_check::Check;
 use pbs_edges::EdgeFail;
 use pbs_expand::Expand;
 use pbs_overlap::OverlapFail;
-use pbs_read::ReadSpec;
+use pbs_text::ReadSpec;
 use std::alloc::{AllocError, AllocFailed};
 use std::fmt;
 

@@ -4,36 +4,36 @@ use Rattle.std.proofs.Common.{ap₂, ◌∙◌, false, true, arith, append_assoc
 use Rattle.std.specs.Prelude.{option_map}
 use Rattle.std.proofs.lemmas.Bool.{false≢true}
 use Rattle.pbs_ast.specs.declared.syntax.Expr.{Expr}
-use Rattle.pbs_read.specs.declared.fail.ReadSpec.{ReadSpec}
-use Rattle.pbs_read.specs.declared.fail.ReadSpec.TheVariants.{Memory, Refused}
-use Rattle.pbs_read.specs.Trees.{width_value, word_at, declared, input_of, inputs_of, names_of}
-use Rattle.pbs_read.specs.descent.Reading.{stepped, bind, read}
-use Rattle.pbs_read.specs.descent.Descent.{BeginsWith, NoFront, front_refusal, behind_expr, ReadsExpr, StopsExpr}
-use Rattle.pbs_read.specs.descent.DeclDescent.{TakesBit, ReadsWidth, StopsWidth, ReadsInput, StopsInput, ReadsInputs}
-use Rattle.pbs_read.specs.descent.DeclDescent.{StopsInputs, ReadsNames, StopsNames, ReadsSet, StopsSet, ReadsSets}
-use Rattle.pbs_read.specs.descent.DeclDescent.{StopsSets, ReadsLevelHead, StopsLevel, ReadsLevel, ReadsProd}
-use Rattle.pbs_read.specs.descent.DeclDescent.{StopsProd}
-use Rattle.pbs_read.specs.Grammar.{token, Second, bit_kind, Width, OneBit, TwoBits, MoreBits, width_kind, ExprPhrase}
-use Rattle.pbs_read.specs.Grammar.{OneSeq, MoreSeqs, OneItem, MoreItems, InputPhrase, OneWire, Bus, InputsPhrase}
-use Rattle.pbs_read.specs.Grammar.{OneInput, MoreInputs, NamesPhrase, OneName, MoreNames, SetsPhrase, NoSets}
-use Rattle.pbs_read.specs.Grammar.{MoreSets, InputDecl, ProdDecl}
-use Rattle.pbs_read.specs.Holes.{Front, OfProd}
-use Rattle.pbs_read.specs.descent.Places.{InputHole, FirstInput, NextInput, NameHole, FirstName, NextName, LevelFront}
-use Rattle.pbs_read.specs.descent.Places.{Place, InDecls, WantsInput, AfterInputName, WantsWidth, AfterInput}
-use Rattle.pbs_read.specs.descent.Places.{WantsName, AfterName, AfterLevelEquals, AfterLevelBit, InLevel}
-use Rattle.pbs_read.specs.descent.Places.{AfterSetColon, AfterSetBit, before}
-use Rattle.pbs_read.specs.descent.Steps.{bit_of, width_of, with_next, level_front, step}
+use Rattle.pbs_text.specs.declared.fail.ReadSpec.{ReadSpec}
+use Rattle.pbs_text.specs.declared.fail.ReadSpec.TheVariants.{Memory, Refused}
+use Rattle.pbs_text.specs.Trees.{width_value, word_at, declared, input_of, inputs_of, names_of}
+use Rattle.pbs_text.specs.places.Reading.{stepped, bind, read}
+use Rattle.pbs_descent.specs.Descent.{BeginsWith, NoFront, front_refusal, behind_expr, ReadsExpr, StopsExpr}
+use Rattle.pbs_read.specs.DeclDescent.{TakesBit, ReadsWidth, StopsWidth, ReadsInput, StopsInput, ReadsInputs}
+use Rattle.pbs_read.specs.DeclDescent.{StopsInputs, ReadsNames, StopsNames, ReadsSet, StopsSet, ReadsSets}
+use Rattle.pbs_read.specs.DeclDescent.{StopsSets, ReadsLevelHead, StopsLevel, ReadsLevel, ReadsProd}
+use Rattle.pbs_read.specs.DeclDescent.{StopsProd}
+use Rattle.pbs_text.specs.Grammar.{token, Second, bit_kind, Width, OneBit, TwoBits, MoreBits, width_kind, ExprPhrase}
+use Rattle.pbs_text.specs.Grammar.{OneSeq, MoreSeqs, OneItem, MoreItems, InputPhrase, OneWire, Bus, InputsPhrase}
+use Rattle.pbs_text.specs.Grammar.{OneInput, MoreInputs, NamesPhrase, OneName, MoreNames, SetsPhrase, NoSets}
+use Rattle.pbs_text.specs.Grammar.{MoreSets, InputDecl, ProdDecl}
+use Rattle.pbs_text.specs.Holes.{Front, OfProd}
+use Rattle.pbs_text.specs.places.Places.{InputHole, FirstInput, NextInput, NameHole, FirstName, NextName, LevelFront}
+use Rattle.pbs_text.specs.places.Places.{Place, InDecls, WantsInput, AfterInputName, WantsWidth, AfterInput}
+use Rattle.pbs_text.specs.places.Places.{WantsName, AfterName, AfterLevelEquals, AfterLevelBit, InLevel}
+use Rattle.pbs_text.specs.places.Places.{AfterSetColon, AfterSetBit, before}
+use Rattle.pbs_text.specs.places.Steps.{bit_of, width_of, with_next, level_front, step}
 use Rattle.pbs_ast.specs.declared.syntax.Decl.{Decl}
 use Rattle.pbs_ast.specs.declared.syntax.Set.{Set}
 use Rattle.pbs_ast.specs.declared.syntax.Level.{Level}
 use Rattle.pbs_ast.specs.declared.syntax.Prod.{Prod}
 use Rattle.pbs_base.specs.declared.refusal.Span.{Span}
-use Rattle.pbs_read.specs.declared.token.Token.{Token}
-use Rattle.pbs_read.specs.declared.token.TokenKind.{TokenKind}
-use Rattle.pbs_read.specs.declared.token.TokenKind.TheVariants.{Name, Zero, One, Two, Digit, Semicolon, Comma, Equals}
-use Rattle.pbs_read.specs.declared.token.TokenKind.TheVariants.{OpenCurly, CloseCurly, Bar, Colon}
-use Rattle.pbs_read.proofs.TermExits.{none_second}
-use Rattle.pbs_read.proofs.ExprExits.{unclosed}
+use Rattle.pbs_text.specs.declared.token.Token.{Token}
+use Rattle.pbs_text.specs.declared.token.TokenKind.{TokenKind}
+use Rattle.pbs_text.specs.declared.token.TokenKind.TheVariants.{Name, Zero, One, Two, Digit, Semicolon, Comma, Equals}
+use Rattle.pbs_text.specs.declared.token.TokenKind.TheVariants.{OpenCurly, CloseCurly, Bar, Colon}
+use Rattle.pbs_descent.proofs.TermExits.{none_second}
+use Rattle.pbs_descent.proofs.ExprExits.{unclosed}
 
 -- the loop over the inputs
 abbrev behind_inputs : {two : Bool} → InputsPhrase two → Front two → Span → Place

@@ -1,14 +1,3 @@
-pub mod Walks
-pub mod Finishes
-pub mod Phrases
-pub mod Exact
-pub mod Lexes
-pub mod Found
-pub mod Decimals
-pub mod Descends
-pub mod MarkLemmas
-pub mod TermExits
-pub mod ExprExits
-pub mod DeclExits
-pub mod TextExits
-pub mod AnswerLemmas
+mod DeclExits
+mod TextExits
+mod AnswerLemmas

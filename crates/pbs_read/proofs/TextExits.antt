@@ -3,22 +3,22 @@ use Rattle.std.proofs.Common.{◌≡◌, ℕ, ◌<◌, List, [], ◌∷◌, ◌+
 use Rattle.std.proofs.Common.{ap₂, ◌∙◌, false, true, arith}
 use Rattle.std.specs.Prelude.{option_map}
 use Rattle.pbs_ast.specs.declared.syntax.Expr.{Expr}
-use Rattle.pbs_read.specs.declared.fail.ReadSpec.{ReadSpec}
-use Rattle.pbs_read.specs.declared.fail.ReadSpec.TheVariants.{Memory, Refused}
-use Rattle.pbs_read.specs.descent.Reading.{stepped, bind, read}
-use Rattle.pbs_read.specs.descent.Descent.{BeginsWith, NoFront, front_refusal, behind_expr, ReadsExpr, StopsExpr}
-use Rattle.pbs_read.specs.Bare.{bare_prod}
-use Rattle.pbs_read.specs.Trees.{Declared, with_decl}
-use Rattle.pbs_read.specs.descent.DeclDescent.{ReadsInputs, StopsInputs, ReadsNames, StopsNames, StopsLevel}
-use Rattle.pbs_read.specs.descent.DeclDescent.{ReadsLevel, ReadsProd, StopsProd}
-use Rattle.pbs_read.specs.descent.TextDescent.{bare_lists, nothing_yet, made_spec, decl_word, decl_kind, behind_word}
-use Rattle.pbs_read.specs.descent.TextDescent.{ReadsVersion, StopsVersion, TakesDeclWord, ReadsDecl, StopsDecl}
-use Rattle.pbs_read.specs.descent.TextDescent.{ReadsDecls, StopsDecls, ReadsMain, StopsMain, ReadsText, StopsText}
-use Rattle.pbs_read.specs.Grammar.{token, version_kind, ExprPhrase, OneSeq, MoreSeqs, OneItem, MoreItems, InputDecl}
-use Rattle.pbs_read.specs.Grammar.{ActionDecl, LevelDecl, ProdDecl, DeclsPhrase, NoDecls, MoreDecls, OfVersion}
-use Rattle.pbs_read.specs.Holes.{Front, OfProd, OfMain}
-use Rattle.pbs_read.specs.descent.Places.{AfterSpec, AfterVersion, InDecls, Whole}
-use Rattle.pbs_read.specs.descent.Steps.{version_of, whole_spec, first_front, step}
+use Rattle.pbs_text.specs.declared.fail.ReadSpec.{ReadSpec}
+use Rattle.pbs_text.specs.declared.fail.ReadSpec.TheVariants.{Memory, Refused}
+use Rattle.pbs_text.specs.places.Reading.{stepped, bind, read}
+use Rattle.pbs_descent.specs.Descent.{BeginsWith, NoFront, front_refusal, behind_expr, ReadsExpr, StopsExpr}
+use Rattle.pbs_text.specs.Bare.{bare_prod}
+use Rattle.pbs_text.specs.Trees.{Declared, with_decl}
+use Rattle.pbs_read.specs.DeclDescent.{ReadsInputs, StopsInputs, ReadsNames, StopsNames, StopsLevel}
+use Rattle.pbs_read.specs.DeclDescent.{ReadsLevel, ReadsProd, StopsProd}
+use Rattle.pbs_read.specs.TextDescent.{bare_lists, nothing_yet, made_spec, decl_word, decl_kind, behind_word}
+use Rattle.pbs_read.specs.TextDescent.{ReadsVersion, StopsVersion, TakesDeclWord, ReadsDecl, StopsDecl}
+use Rattle.pbs_read.specs.TextDescent.{ReadsDecls, StopsDecls, ReadsMain, StopsMain, ReadsText, StopsText}
+use Rattle.pbs_text.specs.Grammar.{token, version_kind, ExprPhrase, OneSeq, MoreSeqs, OneItem, MoreItems, InputDecl}
+use Rattle.pbs_text.specs.Grammar.{ActionDecl, LevelDecl, ProdDecl, DeclsPhrase, NoDecls, MoreDecls, OfVersion}
+use Rattle.pbs_text.specs.Holes.{Front, OfProd, OfMain}
+use Rattle.pbs_text.specs.places.Places.{AfterSpec, AfterVersion, InDecls, Whole}
+use Rattle.pbs_text.specs.places.Steps.{version_of, whole_spec, first_front, step}
 use Rattle.std.proofs.lemmas.List.{map-append}
 use Rattle.pbs_ast.specs.declared.syntax.Decl.{Decl}
 use Rattle.pbs_ast.specs.declared.syntax.Level.{Level}
@@ -28,11 +28,11 @@ use Rattle.pbs_read.specs.declared.spec.Lists.{Lists}
 use Rattle.pbs_read.specs.declared.spec.DeclWord.{DeclWord}
 use Rattle.pbs_read.specs.declared.spec.DeclWord.TheVariants.{OfInput, OfAction, OfLevel, OfProd}
 use Rattle.pbs_base.specs.declared.refusal.Span.{Span}
-use Rattle.pbs_read.specs.declared.token.Token.{Token}
-use Rattle.pbs_read.specs.declared.token.TokenKind.{TokenKind}
-use Rattle.pbs_read.specs.declared.token.TokenKind.TheVariants.{One, Two, SpecWord, InputWord, ActionWord, LevelWord}
-use Rattle.pbs_read.specs.declared.token.TokenKind.TheVariants.{ProdWord, MainWord, Semicolon, Comma, Equals, Bar}
-use Rattle.pbs_read.proofs.ExprExits.{unclosed}
+use Rattle.pbs_text.specs.declared.token.Token.{Token}
+use Rattle.pbs_text.specs.declared.token.TokenKind.{TokenKind}
+use Rattle.pbs_text.specs.declared.token.TokenKind.TheVariants.{One, Two, SpecWord, InputWord, ActionWord, LevelWord}
+use Rattle.pbs_text.specs.declared.token.TokenKind.TheVariants.{ProdWord, MainWord, Semicolon, Comma, Equals, Bar}
+use Rattle.pbs_descent.proofs.ExprExits.{unclosed}
 
 -- ---- the version
 

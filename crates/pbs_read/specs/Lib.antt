@@ -1,8 +1,2 @@
-pub mod Lexing
-pub mod Grammar
-pub mod Trees
-pub mod Bare
-pub mod Holes
-pub mod Refusals
-pub mod Answers
-pub mod descent
+pub mod DeclDescent
+pub mod TextDescent

@@ -1,23 +1,21 @@
 // Declarations.
 ghost use Rattle.std.specs.Prelude.{ℕ, Bool, ◌≡◌, ◌≤◌, ◌<◌, ◌+◌, ◌∷◌, ◌++◌, [], length, true, IfOk, IfErr, MatchOption};
 ghost use Rattle.std.specs.Prelude.{option_map};
-ghost use Rattle.pbs_read.specs.Bare.{bare_prod};
-ghost use Rattle.pbs_read.specs.Grammar.{token};
-ghost use Rattle.pbs_read.specs.descent.Steps.{bit_of, width_of};
-ghost use Rattle.pbs_read.specs.Trees.{width_value, declared};
-ghost use Rattle.pbs_read.specs.descent.Descent.{NoFront, BeginsWith, front_refusal};
-ghost use Rattle.pbs_read.specs.descent.DeclDescent.{TakesBit, ReadsWidth, StopsWidth, ReadsInput, StopsInput};
-ghost use Rattle.pbs_read.specs.descent.DeclDescent.{ReadsInputs, StopsInputs, ReadsNames, StopsNames, ReadsSet};
-ghost use Rattle.pbs_read.specs.descent.DeclDescent.{StopsSet, ReadsSets, StopsSets, ReadsLevelHead, StopsLevel};
-ghost use Rattle.pbs_read.specs.descent.DeclDescent.{ReadsLevel, ReadsProd, StopsProd};
-ghost use Rattle.pbs_read.specs.declared.token.TokenKind.TheVariants.{Name};
+ghost use Rattle.pbs_text.specs.Bare.{bare_prod};
+ghost use Rattle.pbs_text.specs.Grammar.{token};
+ghost use Rattle.pbs_text.specs.places.Steps.{bit_of, width_of};
+ghost use Rattle.pbs_text.specs.Trees.{width_value, declared};
+ghost use Rattle.pbs_descent.specs.Descent.{NoFront, BeginsWith, front_refusal};
+ghost use Rattle.pbs_read.specs.DeclDescent.{TakesBit, ReadsWidth, StopsWidth, ReadsInput, StopsInput};
+ghost use Rattle.pbs_read.specs.DeclDescent.{ReadsInputs, StopsInputs, ReadsNames, StopsNames, ReadsSet};
+ghost use Rattle.pbs_read.specs.DeclDescent.{StopsSet, ReadsSets, StopsSets, ReadsLevelHead, StopsLevel};
+ghost use Rattle.pbs_read.specs.DeclDescent.{ReadsLevel, ReadsProd, StopsProd};
+ghost use Rattle.pbs_text.specs.declared.token.TokenKind.TheVariants.{Name};
 
-use crate::common::{behind, expect, front, second, stop, word};
-use crate::exprs::expr;
-use crate::fail::ReadSpec;
-use crate::token::{Mark, Token, TokenKind};
 use pbs_ast::{Decl, Decls, Level, Prod, Set, Sets};
 use pbs_base::{Listed, Span};
+use pbs_descent::{Mark, behind, expect, expr, front, second, stop, word};
+use pbs_text::{ReadSpec, Token, TokenKind};
 use std::alloc::Global;
 
 fn bit_value(kind: TokenKind) -> Option<bool>

@@ -3,26 +3,24 @@ ghost use Rattle.std.specs.Prelude.{ℕ, Bool, List, Result, ◌≡◌, ◌≤�
 ghost use Rattle.std.specs.Prelude.{IfErr, MatchOption, option_map};
 ghost use Rattle.pbs_base.specs.declared.refusal.Refusal.{Refusal};
 ghost use Rattle.pbs_ast.specs.declared.syntax.Spec.{Spec};
-ghost use Rattle.pbs_read.specs.declared.fail.ReadSpec.TheVariants as answers;
-ghost use Rattle.pbs_read.specs.Bare.{bare, bare_expr};
-ghost use Rattle.pbs_read.specs.Grammar.{TextPhrase};
-ghost use Rattle.pbs_read.specs.Refusals.{refusal};
-ghost use Rattle.pbs_read.specs.descent.Steps.{version_of};
-ghost use Rattle.pbs_read.specs.Trees.{text_spec};
-ghost use Rattle.pbs_read.specs.descent.Descent.{NoFront, front_refusal};
-ghost use Rattle.pbs_read.specs.descent.TextDescent.{bare_lists, nothing_yet, made_spec, decl_word, ReadsVersion};
-ghost use Rattle.pbs_read.specs.descent.TextDescent.{StopsVersion, TakesDeclWord, ReadsDecl, StopsDecl, ReadsDecls};
-ghost use Rattle.pbs_read.specs.descent.TextDescent.{StopsDecls, ReadsMain, StopsMain, ReadsText, StopsText};
-ghost use Rattle.pbs_read.specs.Answers.{StandsFor, IsRefusedBy, Answers, Refuses, IsThe};
+ghost use Rattle.pbs_text.specs.declared.fail.ReadSpec.TheVariants as answers;
+ghost use Rattle.pbs_text.specs.Bare.{bare, bare_expr};
+ghost use Rattle.pbs_text.specs.Grammar.{TextPhrase};
+ghost use Rattle.pbs_text.specs.Refusals.{refusal};
+ghost use Rattle.pbs_text.specs.places.Steps.{version_of};
+ghost use Rattle.pbs_text.specs.Trees.{text_spec};
+ghost use Rattle.pbs_descent.specs.Descent.{NoFront, front_refusal};
+ghost use Rattle.pbs_read.specs.TextDescent.{bare_lists, nothing_yet, made_spec, decl_word, ReadsVersion};
+ghost use Rattle.pbs_read.specs.TextDescent.{StopsVersion, TakesDeclWord, ReadsDecl, StopsDecl, ReadsDecls};
+ghost use Rattle.pbs_read.specs.TextDescent.{StopsDecls, ReadsMain, StopsMain, ReadsText, StopsText};
+ghost use Rattle.pbs_text.specs.Answers.{StandsFor, IsRefusedBy, Answers, Refuses, IsThe};
 
-use crate::common::{expect, front, stop};
 use crate::decls::{inputs, level, names, prod};
-use crate::exprs::expr;
-use crate::fail::ReadSpec;
-use crate::token::{Mark, Token, TokenKind};
-use crate::tokens::tokens_of;
 use pbs_ast::{Decls, Expr, Levels, Prods, Spec};
 use pbs_base::{Listed, Refusal, Span, Subject};
+use pbs_descent::{Mark, expect, expr, front, stop};
+use pbs_lex::tokens_of;
+use pbs_text::{ReadSpec, Token, TokenKind};
 use std::alloc::Global;
 
 /// How many bytes a text may have.

@@ -7,15 +7,15 @@ use Rattle.pbs_ast.specs.declared.syntax.Kind.{Kind}
 use Rattle.pbs_ast.specs.declared.syntax.SpecTerm.{SpecTerm}
 use Rattle.pbs_ast.specs.declared.syntax.Expr.{Expr}
 use Rattle.pbs_ast.specs.declared.syntax.Spec.{Spec}
-use Rattle.pbs_read.specs.Bare.{no_place, expr}
-use Rattle.pbs_read.specs.Grammar.{TwoNumeral, DigitNumeral, Negated, Bracketed, Named, OneUnit, MoreUnits, OneAll}
-use Rattle.pbs_read.specs.Grammar.{OneSeq, MoreSeqs, OneItem, Plain, Counted, Terminal, Action, Call, Grouped}
-use Rattle.pbs_read.specs.Grammar.{FullGroup, OneName, NoSets, MoreSets, ActionDecl, LevelDecl, NoDecls, MoreDecls}
-use Rattle.pbs_read.specs.Grammar.{TextPhrase, OfVersion, text_tokens}
-use Rattle.pbs_read.specs.Trees.{text_spec}
-use Rattle.pbs_read.specs.descent.Places.{Start}
-use Rattle.pbs_read.specs.descent.Reading.{read}
-use Rattle.pbs_read.specs.Lexing.{tokens, lex}
+use Rattle.pbs_text.specs.Bare.{no_place, expr}
+use Rattle.pbs_text.specs.Grammar.{TwoNumeral, DigitNumeral, Negated, Bracketed, Named, OneUnit, MoreUnits, OneAll}
+use Rattle.pbs_text.specs.Grammar.{OneSeq, MoreSeqs, OneItem, Plain, Counted, Terminal, Action, Call, Grouped}
+use Rattle.pbs_text.specs.Grammar.{FullGroup, OneName, NoSets, MoreSets, ActionDecl, LevelDecl, NoDecls, MoreDecls}
+use Rattle.pbs_text.specs.Grammar.{TextPhrase, OfVersion, text_tokens}
+use Rattle.pbs_text.specs.Trees.{text_spec}
+use Rattle.pbs_text.specs.places.Places.{Start}
+use Rattle.pbs_text.specs.places.Reading.{read}
+use Rattle.pbs_text.specs.Lexing.{tokens, lex}
 use Rattle.pbs_print.specs.Canonical.{canonical}
 use Rattle.pbs_print.proofs.JoinedPieces.{text-all, text-choice}
 use Rattle.pbs_round.specs.Unspanned.{unspanned, unspanned_term, unspanned_kind, unspanned_expr, no_span}

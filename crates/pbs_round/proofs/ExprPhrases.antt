@@ -9,17 +9,17 @@ use Rattle.pbs_ast.specs.declared.syntax.Kind as node
 use Rattle.pbs_ast.specs.declared.syntax.Kind.{Kind, Row_of-Expr, end_of-Expr, more_of-Expr, items-the_row-Expr}
 use Rattle.pbs_ast.specs.declared.syntax.Kind.{items_hidden-the_row-Expr-0}
 use Rattle.pbs_ast.specs.declared.syntax.Kind.TheBlock.{hidden-the_row-Expr-0}
-use Rattle.pbs_read.specs.declared.token.Token.{Token}
-use Rattle.pbs_read.specs.declared.token.Operator.{Operator}
-use Rattle.pbs_read.specs.declared.token.Operator.TheVariants.{StarOp, PlusOp, OptOp}
-use Rattle.pbs_read.specs.declared.token.TokenKind.TheVariants as kind
-use Rattle.pbs_read.specs.Bare.{no_place, expr}
-use Rattle.pbs_read.specs.Grammar.{token, Second, numeral_kind, operator_kind, ExprPhrase, OneSeq, MoreSeqs, SeqPhrase}
-use Rattle.pbs_read.specs.Grammar.{OneItem, MoreItems, ItemPhrase, Plain, Repeated, Counted, PrimPhrase, Terminal}
-use Rattle.pbs_read.specs.Grammar.{Action, Call, Grouped, Hold, Try, GroupPhrase, EmptyGroup, FullGroup, term_tokens}
-use Rattle.pbs_read.specs.Grammar.{expr_tokens, seq_tokens, item_tokens, prim_tokens, group_tokens}
-use Rattle.pbs_read.specs.Trees.{seq_node, choice_node, operator_node, expr_items, seq_items, item_tree, prim_tree}
-use Rattle.pbs_read.specs.Trees.{group_tree, seq_tree, expr_tree}
+use Rattle.pbs_text.specs.declared.token.Token.{Token}
+use Rattle.pbs_text.specs.declared.token.Operator.{Operator}
+use Rattle.pbs_text.specs.declared.token.Operator.TheVariants.{StarOp, PlusOp, OptOp}
+use Rattle.pbs_text.specs.declared.token.TokenKind.TheVariants as kind
+use Rattle.pbs_text.specs.Bare.{no_place, expr}
+use Rattle.pbs_text.specs.Grammar.{token, Second, numeral_kind, operator_kind, ExprPhrase, OneSeq, MoreSeqs, SeqPhrase}
+use Rattle.pbs_text.specs.Grammar.{OneItem, MoreItems, ItemPhrase, Plain, Repeated, Counted, PrimPhrase, Terminal}
+use Rattle.pbs_text.specs.Grammar.{Action, Call, Grouped, Hold, Try, GroupPhrase, EmptyGroup, FullGroup, term_tokens}
+use Rattle.pbs_text.specs.Grammar.{expr_tokens, seq_tokens, item_tokens, prim_tokens, group_tokens}
+use Rattle.pbs_text.specs.Trees.{seq_node, choice_node, operator_node, expr_items, seq_items, item_tree, prim_tree}
+use Rattle.pbs_text.specs.Trees.{group_tree, seq_tree, expr_tree}
 use Rattle.pbs_print.specs.Canonical.{is_empty, is_choice, is_list, is_wide}
 use Rattle.pbs_round.specs.Unspanned.{unspanned_term, unspanned_kind, unspanned_exprs, unspanned_expr, no_span}
 use Rattle.pbs_round.proofs.Pieces.{Piece, Blank, Sign, Stands, wrapped}

@@ -4,7 +4,7 @@ use Rattle.std.proofs.Common.{append_assoc, append-nil, arith, lit<}
 use Rattle.std.specs.Prelude.{codes, not}
 use Rattle.pbs_base.specs.declared.refusal.Span.{Span}
 use Rattle.pbs_ast.specs.declared.syntax.Kind.{Kind, Row_of-Expr, end_of-Expr, more_of-Expr}
-use Rattle.pbs_read.specs.Grammar.{Second}
+use Rattle.pbs_text.specs.Grammar.{Second}
 use Rattle.pbs_print.specs.Canonical.{followed, joined, bracketed, is_empty, is_choice, is_list, is_wide, term_text}
 use Rattle.pbs_print.specs.Canonical.{kind_text, seq_members, choice_members}
 use Rattle.pbs_round.specs.Unspanned.{unspanned_exprs}
@@ -13,9 +13,9 @@ use Rattle.pbs_round.proofs.Pieces.{Piece, Blank, Sign, Word, Digits, text, text
 use Rattle.pbs_round.proofs.Pieces.{wrapped, text-wrapped, InBrackets, ReadsOn, wrapped-reads, not_over, FlatAt}
 use Rattle.pbs_round.proofs.Pieces.{wrapped-flat}
 use Rattle.pbs_round.proofs.Terms.{term_pieces, text-term, TermIs, term-reads, term-flat}
-use Rattle.pbs_read.proofs.Found.{IsWord, IsSmall}
+use Rattle.pbs_lex.proofs.Found.{IsWord, IsSmall}
 use Rattle.pbs_ast.specs.declared.syntax.Kind as node
-use Rattle.pbs_read.specs.declared.token.TokenKind.TheVariants as kind
+use Rattle.pbs_text.specs.declared.token.TokenKind.TheVariants as kind
 
 -- ---- pieces
 

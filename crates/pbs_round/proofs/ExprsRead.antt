@@ -9,15 +9,15 @@ use Rattle.pbs_ast.specs.declared.syntax.Kind as node
 use Rattle.pbs_ast.specs.declared.syntax.Kind.{Kind, Row_of-Expr, end_of-Expr, more_of-Expr, items-the_row-Expr}
 use Rattle.pbs_ast.specs.declared.syntax.Kind.{items_hidden-the_row-Expr-0}
 use Rattle.pbs_ast.specs.declared.syntax.Kind.TheBlock.{hidden-the_row-Expr-0}
-use Rattle.pbs_read.specs.declared.token.Token.{Token}
-use Rattle.pbs_read.specs.declared.token.Operator.TheVariants.{StarOp, PlusOp, OptOp}
-use Rattle.pbs_read.specs.declared.token.TokenKind.TheVariants as kind
-use Rattle.pbs_read.specs.Grammar.{token, numeral_kind, ExprPhrase, OneSeq, MoreSeqs, SeqPhrase, OneItem, MoreItems}
-use Rattle.pbs_read.specs.Grammar.{ItemPhrase, Plain, Repeated, Counted, PrimPhrase, Terminal, Action, Call, Grouped}
-use Rattle.pbs_read.specs.Grammar.{Hold, Try, GroupPhrase, EmptyGroup, FullGroup, term_tokens, expr_tokens, seq_tokens}
-use Rattle.pbs_read.specs.Grammar.{item_tokens, prim_tokens, group_tokens}
-use Rattle.pbs_read.specs.Trees.{seq_node, choice_node, expr_items, seq_items, item_tree, prim_tree, group_tree}
-use Rattle.pbs_read.specs.Trees.{seq_tree, expr_tree, seq_extent, expr_extent}
+use Rattle.pbs_text.specs.declared.token.Token.{Token}
+use Rattle.pbs_text.specs.declared.token.Operator.TheVariants.{StarOp, PlusOp, OptOp}
+use Rattle.pbs_text.specs.declared.token.TokenKind.TheVariants as kind
+use Rattle.pbs_text.specs.Grammar.{token, numeral_kind, ExprPhrase, OneSeq, MoreSeqs, SeqPhrase, OneItem, MoreItems}
+use Rattle.pbs_text.specs.Grammar.{ItemPhrase, Plain, Repeated, Counted, PrimPhrase, Terminal, Action, Call, Grouped}
+use Rattle.pbs_text.specs.Grammar.{Hold, Try, GroupPhrase, EmptyGroup, FullGroup, term_tokens, expr_tokens, seq_tokens}
+use Rattle.pbs_text.specs.Grammar.{item_tokens, prim_tokens, group_tokens}
+use Rattle.pbs_text.specs.Trees.{seq_node, choice_node, expr_items, seq_items, item_tree, prim_tree, group_tree}
+use Rattle.pbs_text.specs.Trees.{seq_tree, expr_tree, seq_extent, expr_extent}
 use Rattle.pbs_print.specs.Canonical.{is_empty, is_choice, is_list, is_wide}
 use Rattle.pbs_round.specs.Unspanned.{unspanned_exprs, unspanned_expr}
 use Rattle.pbs_round.proofs.Nesting.{Opened, Round, closed}

@@ -9,18 +9,18 @@ use Rattle.pbs_ast.specs.declared.syntax.Set.{Set}
 use Rattle.pbs_ast.specs.declared.syntax.Level.{Level}
 use Rattle.pbs_ast.specs.declared.syntax.Prod.{Prod}
 use Rattle.pbs_ast.specs.declared.syntax.Spec.{Spec}
-use Rattle.pbs_read.specs.declared.token.Token.{Token}
-use Rattle.pbs_read.specs.declared.token.TokenKind.{TokenKind}
-use Rattle.pbs_read.specs.Bare.{expr}
-use Rattle.pbs_read.specs.Grammar.{token, bit_kind, version_kind, numeral_kind, width_kind, Width, OneBit, TwoBits}
-use Rattle.pbs_read.specs.Grammar.{MoreBits, InputPhrase, OneWire, Bus, InputsPhrase, OneInput, MoreInputs}
-use Rattle.pbs_read.specs.Grammar.{NamesPhrase, OneName, MoreNames, SetsPhrase, NoSets, MoreSets, DeclPhrase}
-use Rattle.pbs_read.specs.Grammar.{InputDecl, ActionDecl, LevelDecl, ProdDecl, DeclsPhrase, NoDecls, MoreDecls}
-use Rattle.pbs_read.specs.Grammar.{SpecPhrase, input_tokens, inputs_tokens, names_tokens, sets_tokens, decl_tokens}
-use Rattle.pbs_read.specs.Grammar.{decls_tokens, spec_tokens, expr_tokens}
-use Rattle.pbs_read.specs.Trees.{width_value, word_at, declared, input_of, inputs_of, names_of, sets_of, declared_by}
-use Rattle.pbs_read.specs.Trees.{version_number, spec_of}
-use Rattle.pbs_read.specs.Lexing.{digit_kind, number_kind}
+use Rattle.pbs_text.specs.declared.token.Token.{Token}
+use Rattle.pbs_text.specs.declared.token.TokenKind.{TokenKind}
+use Rattle.pbs_text.specs.Bare.{expr}
+use Rattle.pbs_text.specs.Grammar.{token, bit_kind, version_kind, numeral_kind, width_kind, Width, OneBit, TwoBits}
+use Rattle.pbs_text.specs.Grammar.{MoreBits, InputPhrase, OneWire, Bus, InputsPhrase, OneInput, MoreInputs}
+use Rattle.pbs_text.specs.Grammar.{NamesPhrase, OneName, MoreNames, SetsPhrase, NoSets, MoreSets, DeclPhrase}
+use Rattle.pbs_text.specs.Grammar.{InputDecl, ActionDecl, LevelDecl, ProdDecl, DeclsPhrase, NoDecls, MoreDecls}
+use Rattle.pbs_text.specs.Grammar.{SpecPhrase, input_tokens, inputs_tokens, names_tokens, sets_tokens, decl_tokens}
+use Rattle.pbs_text.specs.Grammar.{decls_tokens, spec_tokens, expr_tokens}
+use Rattle.pbs_text.specs.Trees.{width_value, word_at, declared, input_of, inputs_of, names_of, sets_of, declared_by}
+use Rattle.pbs_text.specs.Trees.{version_number, spec_of}
+use Rattle.pbs_text.specs.Lexing.{digit_kind, number_kind}
 use Rattle.pbs_round.specs.Unspanned.{no_span, unspanned_kind, unspanned_decl, unspanned_set, unspanned_level}
 use Rattle.pbs_round.specs.Unspanned.{unspanned_prod, unspanned}
 use Rattle.pbs_round.proofs.Pieces.{Piece, Blank, Sign, Word, Stands, Written, one_digit}
@@ -33,8 +33,8 @@ use Rattle.pbs_round.proofs.Lines.{end_pieces, width_pieces, decl_pieces, more_d
 use Rattle.pbs_round.proofs.Lines.{action_word, set_pieces, sets_pieces, close_pieces, level_pieces, levels_pieces}
 use Rattle.pbs_round.proofs.Lines.{prod_pieces, prods_pieces, main_pieces, block_pieces, spec_pieces, WidthIs, DeclIs}
 use Rattle.pbs_round.proofs.Lines.{ActionIs, ProdIs, SpecIs}
-use Rattle.pbs_read.proofs.Found.{chosen}
-use Rattle.pbs_read.specs.declared.token.TokenKind.TheVariants as kind
+use Rattle.pbs_lex.proofs.Found.{chosen}
+use Rattle.pbs_text.specs.declared.token.TokenKind.TheVariants as kind
 
 -- ---- inputs
 

@@ -9,8 +9,8 @@ use Rattle.pbs_ast.specs.declared.syntax.Set.{Set}
 use Rattle.pbs_ast.specs.declared.syntax.Level.{Level}
 use Rattle.pbs_ast.specs.declared.syntax.Prod.{Prod}
 use Rattle.pbs_ast.specs.declared.syntax.Spec.{Spec}
-use Rattle.pbs_read.specs.Grammar.{Second}
-use Rattle.pbs_read.specs.Trees.{version_number}
+use Rattle.pbs_text.specs.Grammar.{Second}
+use Rattle.pbs_text.specs.Trees.{version_number}
 use Rattle.pbs_print.specs.Canonical.{followed, joined, bit_text, kind_text, width_text, decl_text, decls_line}
 use Rattle.pbs_print.specs.Canonical.{set_text, level_line, prod_line, canonical}
 use Rattle.pbs_round.proofs.Pieces.{Piece, Blank, Sign, Word, Digits, text, text-append, IsParted, IsReadable, Flat}
@@ -18,8 +18,8 @@ use Rattle.pbs_round.proofs.Pieces.{ReadsOn}
 use Rattle.pbs_round.proofs.Terms.{bit_pieces, text-bit, bit-reads, bit-flat}
 use Rattle.pbs_round.proofs.TermsRead.{Each}
 use Rattle.pbs_round.proofs.Exprs.{kind_pieces, text-kind, KindIs, kind-reads, kind-flat}
-use Rattle.pbs_read.proofs.Found.{IsWord, IsSmall}
-use Rattle.pbs_read.specs.declared.token.TokenKind.TheVariants as kind
+use Rattle.pbs_lex.proofs.Found.{IsWord, IsSmall}
+use Rattle.pbs_text.specs.declared.token.TokenKind.TheVariants as kind
 
 -- ---- pieces
 

@@ -1,15 +1,15 @@
 -- A specification that is read can be written.
 use Rattle.std.proofs.Common.{ℕ, zero, suc, List, [], ◌∷◌, ◌++◌, Bool, true, false, refl, subst, append_assoc, arith}
 use Rattle.pbs_base.specs.declared.refusal.Span.{Span}
-use Rattle.pbs_read.specs.declared.token.Token.{Token}
-use Rattle.pbs_read.specs.declared.token.TokenKind.TheVariants as kind
-use Rattle.pbs_read.specs.Grammar.{token, bit_kind, OneBit, TwoBits, MoreBits, InputPhrase, OneWire, Bus, InputsPhrase}
-use Rattle.pbs_read.specs.Grammar.{OneInput, MoreInputs, NamesPhrase, OneName, MoreNames, SetsPhrase, NoSets, MoreSets}
-use Rattle.pbs_read.specs.Grammar.{DeclPhrase, InputDecl, ActionDecl, LevelDecl, ProdDecl, DeclsPhrase, NoDecls}
-use Rattle.pbs_read.specs.Grammar.{MoreDecls, SpecPhrase, version_kind, input_tokens, inputs_tokens, names_tokens}
-use Rattle.pbs_read.specs.Grammar.{sets_tokens, decl_tokens, decls_tokens, spec_tokens, expr_tokens}
-use Rattle.pbs_read.specs.Trees.{declared, input_of, inputs_of, names_of, sets_of, Declared, with_decl, declared_by}
-use Rattle.pbs_read.specs.Trees.{spec_of, expr_tree, word_at}
+use Rattle.pbs_text.specs.declared.token.Token.{Token}
+use Rattle.pbs_text.specs.declared.token.TokenKind.TheVariants as kind
+use Rattle.pbs_text.specs.Grammar.{token, bit_kind, OneBit, TwoBits, MoreBits, InputPhrase, OneWire, Bus, InputsPhrase}
+use Rattle.pbs_text.specs.Grammar.{OneInput, MoreInputs, NamesPhrase, OneName, MoreNames, SetsPhrase, NoSets, MoreSets}
+use Rattle.pbs_text.specs.Grammar.{DeclPhrase, InputDecl, ActionDecl, LevelDecl, ProdDecl, DeclsPhrase, NoDecls}
+use Rattle.pbs_text.specs.Grammar.{MoreDecls, SpecPhrase, version_kind, input_tokens, inputs_tokens, names_tokens}
+use Rattle.pbs_text.specs.Grammar.{sets_tokens, decl_tokens, decls_tokens, spec_tokens, expr_tokens}
+use Rattle.pbs_text.specs.Trees.{declared, input_of, inputs_of, names_of, sets_of, Declared, with_decl, declared_by}
+use Rattle.pbs_text.specs.Trees.{spec_of, expr_tree, word_at}
 use Rattle.pbs_round.proofs.Proper.{Proper}
 use Rattle.pbs_round.proofs.TermsRead.{Each, each-end}
 use Rattle.pbs_round.proofs.ExprsRead.{expr_is_read}

@@ -3,35 +3,35 @@ use Rattle.std.proofs.Common.{◌≡◌, ℕ, suc, ◌≤◌, List, [], ◌∷�
 use Rattle.std.proofs.Common.{None, Ok, Err, refl, sym, ap, subst, ◌∙◌, arith}
 use Rattle.std.specs.Prelude.{IfSome, option_map, option_and_then}
 use Rattle.pbs_base.specs.declared.refusal.Span.{Span}
-use Rattle.pbs_read.specs.declared.token.Token.{Token}
-use Rattle.pbs_read.specs.declared.token.TokenKind.{TokenKind}
-use Rattle.pbs_read.specs.declared.token.TokenKind.TheVariants.{Name, Zero, One, Two, Digit, Number, SpecWord}
-use Rattle.pbs_read.specs.declared.token.TokenKind.TheVariants.{InputWord, ActionWord, LevelWord, ProdWord, MainWord}
-use Rattle.pbs_read.specs.declared.token.TokenKind.TheVariants.{HoldWord, TryWord, AbortWord, ThenWord, Semicolon}
-use Rattle.pbs_read.specs.declared.token.TokenKind.TheVariants.{Comma, Equals, OpenCurly, CloseCurly, OpenRound}
-use Rattle.pbs_read.specs.declared.token.TokenKind.TheVariants.{CloseRound, OpenSquare, CloseSquare, Bar, Star, Plus}
-use Rattle.pbs_read.specs.declared.token.TokenKind.TheVariants.{Question, Tilde, Ampersand, Colon}
-use Rattle.pbs_read.specs.Grammar.{ZeroNumeral, OneNumeral, TwoNumeral, DigitNumeral, LongNumeral, UnitPhrase}
-use Rattle.pbs_read.specs.Grammar.{Negated, Bracketed, Named, Bit, Compared, AllPhrase, TermPhrase, ExprPhrase}
-use Rattle.pbs_read.specs.Grammar.{ItemPhrase, Plain, GroupPhrase, TextPhrase}
-use Rattle.pbs_read.specs.Holes.{ExprHole, OfGroup, OfProd, OfMain, SeqHole, FirstSeq, NextSeq, ItemHole, FirstItem}
-use Rattle.pbs_read.specs.Holes.{NextItem, GroupHole, AsPrim, OfHold, OfBody, OfTrap, OfAfter, TermHole, OfTerminal}
-use Rattle.pbs_read.specs.Holes.{OfGuard, InRound, AllHole, FirstAll, NextAll, UnitHole, UnderNot, FirstUnit}
-use Rattle.pbs_read.specs.Holes.{NextUnit, expr_nesting, seq_nesting, item_nesting, group_nesting, term_nesting}
-use Rattle.pbs_read.specs.Holes.{all_nesting, unit_nesting}
-use Rattle.pbs_read.specs.descent.Places.{NameHole, FirstName, NextName, Place, Start, AfterSpec, AfterVersion}
-use Rattle.pbs_read.specs.descent.Places.{InDecls, WantsInput, AfterInputName, WantsWidth, AfterInput, WantsName}
-use Rattle.pbs_read.specs.descent.Places.{AfterName, AfterLevel, AfterLevelName, AfterLevelEquals, AfterLevelBit}
-use Rattle.pbs_read.specs.descent.Places.{InLevel, AfterSetName, AfterSetColon, AfterSetBit, AfterProd, AfterProdName}
-use Rattle.pbs_read.specs.descent.Places.{AfterMain, WantsItem, WantsGroup, InGroup, InCurly, AfterActionName}
-use Rattle.pbs_read.specs.descent.Places.{AfterHold, AfterGuard, AfterBody, AfterTrap, AfterPrim, WantsLeast}
-use Rattle.pbs_read.specs.descent.Places.{AfterLeast, WantsMost, AfterMost, AfterItem, WantsUnit, AfterUnitName}
-use Rattle.pbs_read.specs.descent.Places.{WantsNumber, AfterUnit, Whole}
-use Rattle.pbs_read.specs.descent.Steps.{second, unit_hole, unit_all, with_unit, with_group, with_all, term_hole}
-use Rattle.pbs_read.specs.descent.Steps.{seq_hole, expr_hole, with_name, close_round, close_square, close_group}
-use Rattle.pbs_read.specs.descent.Steps.{close_expr, end_unit, start_item, end_item, step, walk}
-use Rattle.pbs_read.specs.Refusals.{refusal}
-use Rattle.pbs_read.specs.descent.Reading.{is_too_deep, stepped, bind, read}
+use Rattle.pbs_text.specs.declared.token.Token.{Token}
+use Rattle.pbs_text.specs.declared.token.TokenKind.{TokenKind}
+use Rattle.pbs_text.specs.declared.token.TokenKind.TheVariants.{Name, Zero, One, Two, Digit, Number, SpecWord}
+use Rattle.pbs_text.specs.declared.token.TokenKind.TheVariants.{InputWord, ActionWord, LevelWord, ProdWord, MainWord}
+use Rattle.pbs_text.specs.declared.token.TokenKind.TheVariants.{HoldWord, TryWord, AbortWord, ThenWord, Semicolon}
+use Rattle.pbs_text.specs.declared.token.TokenKind.TheVariants.{Comma, Equals, OpenCurly, CloseCurly, OpenRound}
+use Rattle.pbs_text.specs.declared.token.TokenKind.TheVariants.{CloseRound, OpenSquare, CloseSquare, Bar, Star, Plus}
+use Rattle.pbs_text.specs.declared.token.TokenKind.TheVariants.{Question, Tilde, Ampersand, Colon}
+use Rattle.pbs_text.specs.Grammar.{ZeroNumeral, OneNumeral, TwoNumeral, DigitNumeral, LongNumeral, UnitPhrase}
+use Rattle.pbs_text.specs.Grammar.{Negated, Bracketed, Named, Bit, Compared, AllPhrase, TermPhrase, ExprPhrase}
+use Rattle.pbs_text.specs.Grammar.{ItemPhrase, Plain, GroupPhrase, TextPhrase}
+use Rattle.pbs_text.specs.Holes.{ExprHole, OfGroup, OfProd, OfMain, SeqHole, FirstSeq, NextSeq, ItemHole, FirstItem}
+use Rattle.pbs_text.specs.Holes.{NextItem, GroupHole, AsPrim, OfHold, OfBody, OfTrap, OfAfter, TermHole, OfTerminal}
+use Rattle.pbs_text.specs.Holes.{OfGuard, InRound, AllHole, FirstAll, NextAll, UnitHole, UnderNot, FirstUnit}
+use Rattle.pbs_text.specs.Holes.{NextUnit, expr_nesting, seq_nesting, item_nesting, group_nesting, term_nesting}
+use Rattle.pbs_text.specs.Holes.{all_nesting, unit_nesting}
+use Rattle.pbs_text.specs.places.Places.{NameHole, FirstName, NextName, Place, Start, AfterSpec, AfterVersion}
+use Rattle.pbs_text.specs.places.Places.{InDecls, WantsInput, AfterInputName, WantsWidth, AfterInput, WantsName}
+use Rattle.pbs_text.specs.places.Places.{AfterName, AfterLevel, AfterLevelName, AfterLevelEquals, AfterLevelBit}
+use Rattle.pbs_text.specs.places.Places.{InLevel, AfterSetName, AfterSetColon, AfterSetBit, AfterProd, AfterProdName}
+use Rattle.pbs_text.specs.places.Places.{AfterMain, WantsItem, WantsGroup, InGroup, InCurly, AfterActionName}
+use Rattle.pbs_text.specs.places.Places.{AfterHold, AfterGuard, AfterBody, AfterTrap, AfterPrim, WantsLeast}
+use Rattle.pbs_text.specs.places.Places.{AfterLeast, WantsMost, AfterMost, AfterItem, WantsUnit, AfterUnitName}
+use Rattle.pbs_text.specs.places.Places.{WantsNumber, AfterUnit, Whole}
+use Rattle.pbs_text.specs.places.Steps.{second, unit_hole, unit_all, with_unit, with_group, with_all, term_hole}
+use Rattle.pbs_text.specs.places.Steps.{seq_hole, expr_hole, with_name, close_round, close_square, close_group}
+use Rattle.pbs_text.specs.places.Steps.{close_expr, end_unit, start_item, end_item, step, walk}
+use Rattle.pbs_text.specs.Refusals.{refusal}
+use Rattle.pbs_text.specs.places.Reading.{is_too_deep, stepped, bind, read}
 
 -- ---- what is open
 

@@ -8,20 +8,20 @@ use Rattle.std.proofs.lemmas.Bool.Decides.{nat_tests}
 use Rattle.std.proofs.lemmas.Fmt.{decimal_digit, length-decimal-le, decimal_nonempty, digits_decimal}
 use Rattle.std.proofs.lemmas.Fmt.{digits_value-decimal, decimal_step}
 use Rattle.pbs_base.specs.declared.refusal.Span.{Span}
-use Rattle.pbs_read.specs.declared.token.Token.{Token}
-use Rattle.pbs_read.specs.declared.token.TokenKind.{TokenKind}
-use Rattle.pbs_read.specs.Grammar.{token, Numeral, ZeroNumeral, OneNumeral, TwoNumeral, DigitNumeral, LongNumeral}
-use Rattle.pbs_read.specs.Grammar.{numeral_kind}
-use Rattle.pbs_read.specs.Trees.{word_at, numeral_value}
-use Rattle.pbs_read.specs.Lexing.{is_space, is_digit, is_letter, is_word_byte, word_kind, decimal_from, digit_kind}
-use Rattle.pbs_read.specs.Lexing.{number_kind, limited, word_piece, number_piece, first_piece, with_token, with_piece}
-use Rattle.pbs_read.specs.Lexing.{lex}
-use Rattle.pbs_read.proofs.Lexes.{lex-piece, lex-end}
+use Rattle.pbs_text.specs.declared.token.Token.{Token}
+use Rattle.pbs_text.specs.declared.token.TokenKind.{TokenKind}
+use Rattle.pbs_text.specs.Grammar.{token, Numeral, ZeroNumeral, OneNumeral, TwoNumeral, DigitNumeral, LongNumeral}
+use Rattle.pbs_text.specs.Grammar.{numeral_kind}
+use Rattle.pbs_text.specs.Trees.{word_at, numeral_value}
+use Rattle.pbs_text.specs.Lexing.{is_space, is_digit, is_letter, is_word_byte, word_kind, decimal_from, digit_kind}
+use Rattle.pbs_text.specs.Lexing.{number_kind, limited, word_piece, number_piece, first_piece, with_token, with_piece}
+use Rattle.pbs_text.specs.Lexing.{lex}
+use Rattle.pbs_lex.proofs.Lexes.{lex-piece, lex-end}
 use Rattle.pbs_print.specs.Canonical.{bracketed}
 use Rattle.pbs_round.proofs.Nesting.{Opened, Round, closed, behind, is_over, Shallow}
-use Rattle.pbs_read.proofs.Found.{both, chosen, IsWord, word_byte, all_digits, IsSmall}
-use Rattle.pbs_read.specs.declared.token.TokenKind.TheVariants as kind
-use Rattle.pbs_read.specs.declared.piece.Piece.TheVariants as piece
+use Rattle.pbs_lex.proofs.Found.{both, chosen, IsWord, word_byte, all_digits, IsSmall}
+use Rattle.pbs_text.specs.declared.token.TokenKind.TheVariants as kind
+use Rattle.pbs_text.specs.declared.token.Piece.TheVariants as piece
 
 -- ---- pieces
 

@@ -1,14 +1,14 @@
 -- Tokens of a text, together with what is open.
 use Rattle.std.proofs.Common.{◌≡◌, ℕ, List, [], ◌∷◌, false, arith}
 use Rattle.pbs_base.specs.declared.refusal.Span.{Span}
-use Rattle.pbs_read.specs.declared.token.Token.{Token}
-use Rattle.pbs_read.specs.declared.token.TokenKind.{TokenKind}
-use Rattle.pbs_read.specs.Grammar.{token, Numeral, ZeroNumeral, OneNumeral, TwoNumeral, DigitNumeral, LongNumeral}
-use Rattle.pbs_read.specs.Grammar.{numeral_kind}
-use Rattle.pbs_read.specs.Trees.{word_at, numeral_value}
-use Rattle.pbs_read.proofs.Found.{IsSmall, FoundAs, AreFound}
+use Rattle.pbs_text.specs.declared.token.Token.{Token}
+use Rattle.pbs_text.specs.declared.token.TokenKind.{TokenKind}
+use Rattle.pbs_text.specs.Grammar.{token, Numeral, ZeroNumeral, OneNumeral, TwoNumeral, DigitNumeral, LongNumeral}
+use Rattle.pbs_text.specs.Grammar.{numeral_kind}
+use Rattle.pbs_text.specs.Trees.{word_at, numeral_value}
+use Rattle.pbs_lex.proofs.Found.{IsSmall, FoundAs, AreFound}
 use Rattle.pbs_round.proofs.Nesting.{Opened, closed, behind, is_over, Shallow}
-use Rattle.pbs_read.specs.declared.token.TokenKind.TheVariants as kind
+use Rattle.pbs_text.specs.declared.token.TokenKind.TheVariants as kind
 
 abbrev pub Proper : List ℕ → List Opened → List Token → Type 0
 Proper bytes s [] = Unit {0}

@@ -6,13 +6,13 @@ use Rattle.pbs_ast.specs.declared.syntax.SpecTerm as node
 use Rattle.pbs_ast.specs.declared.syntax.SpecTerm.{SpecTerm, Row_of-SpecTerm, end_of-SpecTerm, more_of-SpecTerm}
 use Rattle.pbs_ast.specs.declared.syntax.SpecTerm.{items-the_row-SpecTerm, items_hidden-the_row-SpecTerm-0}
 use Rattle.pbs_ast.specs.declared.syntax.SpecTerm.TheBlock.{hidden-the_row-SpecTerm-0}
-use Rattle.pbs_read.specs.declared.token.Token.{Token}
-use Rattle.pbs_read.specs.declared.token.TokenKind.TheVariants as kind
-use Rattle.pbs_read.specs.Bare.{no_place}
-use Rattle.pbs_read.specs.Grammar.{token, bit_kind, numeral_kind, UnitPhrase, Negated, Bracketed, Named, Bit, Compared}
-use Rattle.pbs_read.specs.Grammar.{AllPhrase, OneUnit, MoreUnits, TermPhrase, OneAll, MoreAlls, unit_tokens, all_tokens}
-use Rattle.pbs_read.specs.Grammar.{term_tokens}
-use Rattle.pbs_read.specs.Trees.{all_node, any_node, unit_tree, all_items, term_items, all_tree, term_tree}
+use Rattle.pbs_text.specs.declared.token.Token.{Token}
+use Rattle.pbs_text.specs.declared.token.TokenKind.TheVariants as kind
+use Rattle.pbs_text.specs.Bare.{no_place}
+use Rattle.pbs_text.specs.Grammar.{token, bit_kind, numeral_kind, UnitPhrase, Negated, Bracketed, Named, Bit, Compared}
+use Rattle.pbs_text.specs.Grammar.{AllPhrase, OneUnit, MoreUnits, TermPhrase, OneAll, MoreAlls, unit_tokens, all_tokens}
+use Rattle.pbs_text.specs.Grammar.{term_tokens}
+use Rattle.pbs_text.specs.Trees.{all_node, any_node, unit_tree, all_items, term_items, all_tree, term_tree}
 use Rattle.pbs_print.specs.Canonical.{is_any, is_joined}
 use Rattle.pbs_round.specs.Unspanned.{unspanned_term, unspanned_terms, no_span}
 use Rattle.pbs_round.proofs.Pieces.{Piece, Sign, Stands, one_digit, wrapped, InBrackets}

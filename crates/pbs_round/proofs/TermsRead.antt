@@ -7,11 +7,11 @@ use Rattle.pbs_ast.specs.declared.syntax.SpecTerm as node
 use Rattle.pbs_ast.specs.declared.syntax.SpecTerm.{SpecTerm, Row_of-SpecTerm, end_of-SpecTerm, more_of-SpecTerm}
 use Rattle.pbs_ast.specs.declared.syntax.SpecTerm.{items-the_row-SpecTerm, items_hidden-the_row-SpecTerm-0}
 use Rattle.pbs_ast.specs.declared.syntax.SpecTerm.TheBlock.{hidden-the_row-SpecTerm-0}
-use Rattle.pbs_read.specs.declared.token.Token.{Token}
-use Rattle.pbs_read.specs.declared.token.TokenKind.TheVariants as kind
-use Rattle.pbs_read.specs.Grammar.{token, UnitPhrase, Negated, Bracketed, Named, Bit, Compared, AllPhrase, OneUnit}
-use Rattle.pbs_read.specs.Grammar.{MoreUnits, TermPhrase, OneAll, MoreAlls, unit_tokens, all_tokens, term_tokens}
-use Rattle.pbs_read.specs.Trees.{all_node, any_node, unit_tree, all_items, term_items, all_tree, term_tree}
+use Rattle.pbs_text.specs.declared.token.Token.{Token}
+use Rattle.pbs_text.specs.declared.token.TokenKind.TheVariants as kind
+use Rattle.pbs_text.specs.Grammar.{token, UnitPhrase, Negated, Bracketed, Named, Bit, Compared, AllPhrase, OneUnit}
+use Rattle.pbs_text.specs.Grammar.{MoreUnits, TermPhrase, OneAll, MoreAlls, unit_tokens, all_tokens, term_tokens}
+use Rattle.pbs_text.specs.Trees.{all_node, any_node, unit_tree, all_items, term_items, all_tree, term_tree}
 use Rattle.pbs_print.specs.Canonical.{is_joined}
 use Rattle.pbs_round.specs.Unspanned.{unspanned_term, unspanned_terms}
 use Rattle.pbs_round.proofs.Nesting.{Opened, Round, Waiting, closed, closed-twice}

@@ -1,22 +1,22 @@
 -- The canonical text reads back.
 use Rattle.std.proofs.Common.{◌≡◌, ℕ, ◌≤◌, List, [], length, Bool, Some, Ok, refl, sym, ap, subst, ◌∙◌}
 use Rattle.pbs_ast.specs.declared.syntax.Spec.{Spec}
-use Rattle.pbs_read.specs.declared.token.Token.{Token}
-use Rattle.pbs_read.specs.Grammar.{TextPhrase, OfVersion, text_tokens}
-use Rattle.pbs_read.specs.Trees.{text_spec}
-use Rattle.pbs_read.specs.descent.Places.{Start, Whole}
-use Rattle.pbs_read.specs.descent.Steps.{walk}
-use Rattle.pbs_read.specs.Refusals.{IsRead, Says}
-use Rattle.pbs_read.specs.Lexing.{tokens}
-use Rattle.pbs_read.specs.Answers.{StandsFor}
-use Rattle.pbs_read.specs.Bare.{bare}
-use Rattle.pbs_read.proofs.Phrases.{walk-text}
-use Rattle.pbs_read.proofs.Exact.{reading_says, reading_is}
+use Rattle.pbs_text.specs.declared.token.Token.{Token}
+use Rattle.pbs_text.specs.Grammar.{TextPhrase, OfVersion, text_tokens}
+use Rattle.pbs_text.specs.Trees.{text_spec}
+use Rattle.pbs_text.specs.places.Places.{Start, Whole}
+use Rattle.pbs_text.specs.places.Steps.{walk}
+use Rattle.pbs_text.specs.Refusals.{IsRead, Says}
+use Rattle.pbs_text.specs.Lexing.{tokens}
+use Rattle.pbs_text.specs.Answers.{StandsFor}
+use Rattle.pbs_text.specs.Bare.{bare}
+use Rattle.pbs_grammar.proofs.Phrases.{walk-text}
+use Rattle.pbs_grammar.proofs.Exact.{reading_says, reading_is}
 use Rattle.pbs_print.specs.Canonical.{canonical}
 use Rattle.pbs_round.specs.Written.{IsWritten, ReadsBack}
 use Rattle.pbs_round.proofs.Nesting.{Shallow, text_shallow, shallow_text}
 use Rattle.pbs_round.proofs.Pieces.{text, placed, lex-text, Stands, stands, flat_shallow}
-use Rattle.pbs_read.proofs.Found.{tokens_found}
+use Rattle.pbs_lex.proofs.Found.{tokens_found}
 use Rattle.pbs_round.proofs.Proper.{Proper, are_proper}
 use Rattle.pbs_round.proofs.Lines.{spec_pieces, text-spec, SpecIs, spec-reads, spec-flat}
 use Rattle.pbs_round.proofs.LinesRead.{spec_is_read}

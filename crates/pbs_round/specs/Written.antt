@@ -1,12 +1,12 @@
 -- Specifications that texts stand for, and those whose canonical text reads back.
 use Rattle.std.specs.Prelude.{ℕ, ◌≡◌, List, Ok}
 use Rattle.pbs_ast.specs.declared.syntax.Spec.{Spec}
-use Rattle.pbs_read.specs.declared.token.Token.{Token}
-use Rattle.pbs_read.specs.Grammar.{TextPhrase}
-use Rattle.pbs_read.specs.Lexing.{tokens}
-use Rattle.pbs_read.specs.Refusals.{IsRead}
-use Rattle.pbs_read.specs.Trees.{text_spec}
-use Rattle.pbs_read.specs.Answers.{StandsFor}
+use Rattle.pbs_text.specs.declared.token.Token.{Token}
+use Rattle.pbs_text.specs.Grammar.{TextPhrase}
+use Rattle.pbs_text.specs.Lexing.{tokens}
+use Rattle.pbs_text.specs.Refusals.{IsRead}
+use Rattle.pbs_text.specs.Trees.{text_spec}
+use Rattle.pbs_text.specs.Answers.{StandsFor}
 use Rattle.pbs_print.specs.Canonical.{canonical}
 use Rattle.pbs_round.specs.Unspanned.{unspanned}
 

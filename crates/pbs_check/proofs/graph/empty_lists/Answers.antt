@@ -1,11 +1,11 @@
 use Rattle.std.proofs.Common.{ℕ, List, [], ◌∷◌, length, sym, ap, subst, ◌∙◌, arith, length-append}
 use Rattle.std.specs.Global.{Vec}
-use Rattle.pbs_check.specs.Links.{HasUser}
+use Rattle.pbs_check.specs.Links.{HasNext}
 use Rattle.pbs_check.proofs.UserLemmas.{no_lists, nothing_more}
 use Rattle.pbs_check.proofs.graph.empty_lists.Goals as goal
 
 abbrev IsEmpty : List (Vec ℕ) → Type 0
-IsEmpty lists = (k u : ℕ) → HasUser lists k u → ⊥
+IsEmpty lists = (k u : ℕ) → HasNext lists k u → ⊥
 
 pub loop-number-init : goal.loop-number-init
 loop-number-init c = record {

@@ -3,4 +3,4 @@ use Rattle.pbs_check.specs.Links.{HasRecursionTo}
 use Rattle.pbs_check.proofs.recursion.least_recursion.Given as goal
 
 abbrev pub invariant-loop-number : goal.invariant-loop-number
-invariant-loop-number l = IsLeast (HasRecursionTo l.graph.uses.items l.number) l.found
+invariant-loop-number l = IsLeast (HasRecursionTo l.uses l.number) l.found

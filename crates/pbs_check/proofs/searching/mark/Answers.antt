@@ -1,9 +1,17 @@
-use Rattle.std.proofs.Common.{◌≡◌, Bool, refl, sym, subst, get_or, arith}
-use Rattle.pbs_check.proofs.SearchLemmas.{grows_one}
+use Rattle.std.proofs.Common.{◌<◌, Some, None, length, refl, sym, ap, ◌∙◌, arith}
+use Rattle.std.specs.Prelude.{nat_eq}
+use Rattle.std.specs.Option.{option_eq}
+use Rattle.std.proofs.lemmas.Option.{get_or_from_slice_get}
+use Rattle.pbs_check.proofs.GraphLemmas.{get_at}
+use Rattle.pbs_check.proofs.SearchLemmas.{not_same, grows_one}
 use Rattle.pbs_check.proofs.searching.mark.Goals as goal
 
 pub returns-in_ok-push-clause-grows : goal.returns-in_ok-push-clause-grows
 returns-in_ok-push-clause-grows c =
-    let marks = c.args.search.now.marks in let P : Bool → Type 0 = λ b. b ≡ get_or marks.items c.args.number b in
-    grows_one c.args.search.now _ c.args.number (omega (arith, c.if-number-len.true, c.len.ensures, marks.ok))
-    (sym (subst P c.if-not-index.true c.index.ensures)) refl c.in_ok-push.ensures.items
+    let marks = c.args.search.now.marks in let n = c.args.number in let root = c.args.root in
+    let mark = c.index.result.now in
+    let within : n < length marks.items = omega (arith, c.if-number-len.true, c.len.ensures, marks.ok) in
+    let e = get_or_from_slice_get marks.items n mark None (get_at marks.items n mark within c.index.ensures) in
+    let other = not_same (option_eq nat_eq mark (Some root)) (sym c.ne.ensures ∙ c.if-ne.true) in
+    grows_one root c.args.search.now _ n within (ap (λ m. option_eq nat_eq m (Some root)) e ∙ other) refl
+    c.in_ok-push.ensures.items

@@ -1,4 +1,4 @@
-use Rattle.pbs_read.proofs.AnswerLemmas as lemma
+use Rattle.pbs_grammar.proofs.OneAnswer as lemma
 use Rattle.pbs_read.proofs.spec.one_answer.Goals as goal
 
 pub returns : goal.returns

@@ -1,6 +1,6 @@
 use Rattle.std.proofs.Common.{◌≤◌, ◌<◌, length, arith}
 use Rattle.std.proofs.lemmas.Result.{err_from_is_err_and}
-use Rattle.pbs_read.specs.Answers.{ByLength}
+use Rattle.pbs_text.specs.Answers.{ByLength}
 use Rattle.pbs_read.proofs.AnswerLemmas.{found_from, refused_from, refused_token}
 use Rattle.pbs_read.proofs.spec.read.Goals as goal
 

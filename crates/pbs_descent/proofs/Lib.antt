@@ -1,0 +1,4 @@
+mod Descends
+mod MarkLemmas
+pub mod TermExits
+pub mod ExprExits

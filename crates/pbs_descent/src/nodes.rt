@@ -1,0 +1,87 @@
+// The nodes of an expression.
+ghost use Rattle.std.specs.Prelude.{ℕ, ◌≡◌, IfOk, IfErr};
+ghost use Rattle.pbs_text.specs.Bare.{bare_expr, bare_term, expr};
+ghost use Rattle.pbs_text.specs.Trees.{operator_node, repeat_node, hold_node, scope_node};
+
+use pbs_ast::{Expr, Kind, SpecTerm};
+use pbs_base::Span;
+use pbs_text::{Operator, ReadSpec};
+use std::alloc::Global;
+
+pub(crate) fn operator_of(
+    alloc: Global,
+    operator: Operator,
+    body: Expr,
+    span: Span,
+) -> Result<Expr, ReadSpec>
+    ensures value { IfOk result (λ e. bare_expr e ≡ expr span (operator_node operator (bare_expr body))) }
+    ensures memory { IfErr result (λ e. e ≡ ReadSpec.Memory) }
+{
+    let body = Box::new(alloc, body)?;
+    match operator {
+        Operator::StarOp => Ok(Expr {
+            span,
+            kind: Kind::Star(body),
+        }),
+        Operator::PlusOp => Ok(Expr {
+            span,
+            kind: Kind::Plus(body),
+        }),
+        Operator::OptOp => Ok(Expr {
+            span,
+            kind: Kind::Opt(body),
+        }),
+    }
+}
+
+pub(crate) fn repeat_of(
+    alloc: Global,
+    body: Expr,
+    least: u32,
+    most: u32,
+    span: Span,
+) -> Result<Expr, ReadSpec>
+    ensures value { IfOk result (λ e. bare_expr e ≡ expr span (repeat_node (bare_expr body) least most)) }
+    ensures memory { IfErr result (λ e. e ≡ ReadSpec.Memory) }
+{
+    Ok(Expr {
+        span,
+        kind: Kind::Repeat(Box::new(alloc, body)?, least, most),
+    })
+}
+
+pub(crate) fn hold_of(
+    alloc: Global,
+    condition: SpecTerm,
+    body: Expr,
+    span: Span,
+) -> Result<Expr, ReadSpec>
+    ensures value { IfOk result (λ e. bare_expr e ≡ expr span (hold_node (bare_term condition) (bare_expr body))) }
+    ensures memory { IfErr result (λ e. e ≡ ReadSpec.Memory) }
+{
+    let body = Box::new(alloc, body)?;
+    Ok(Expr {
+        span,
+        kind: Kind::Hold(condition, body),
+    })
+}
+
+pub(crate) fn scope_of(
+    alloc: Global,
+    body: Expr,
+    trap: Expr,
+    after: Expr,
+    span: Span,
+) -> Result<Expr, ReadSpec>
+    ensures value { IfOk result (λ e. bare_expr e ≡ expr span
+        (scope_node (bare_expr body) (bare_expr trap) (bare_expr after))) }
+    ensures memory { IfErr result (λ e. e ≡ ReadSpec.Memory) }
+{
+    let body = Box::new(alloc, body)?;
+    let trap = Box::new(alloc, trap)?;
+    let after = Box::new(alloc, after)?;
+    Ok(Expr {
+        span,
+        kind: Kind::Scope(body, trap, after),
+    })
+}

@@ -1,0 +1,3 @@
+pub mod Lexes
+pub mod Found
+pub mod Decimals

@@ -1,0 +1,8 @@
+pub mod Lexing
+pub mod Grammar
+pub mod Trees
+pub mod Bare
+pub mod Holes
+pub mod Refusals
+pub mod Answers
+pub mod places
