@@ -92,31 +92,23 @@ fn put_row(out: &mut String, sim: &Sim, count: usize) -> Result<(), AllocError>
     out.push_str("\n")
 }
 
-// The rows in turn.
-fn put_rows(
-    out: &mut String,
-    sim: &mut Sim,
-    count: usize,
-    entries: &[Entry],
-) -> Result<(), AllocError>
-    requires { count ≤ length sim.old.net.outputs }
-{
+// The row of the first reset, and then those of the entries.
+fn rows_of(alloc: Global, net: &Netlist, entries: &[Entry]) -> Result<String, Stop> {
+    let mut sim = Sim::new(alloc, net)?;
+    let count = net.outputs().len();
+    let mut out = String::new(alloc);
+    step_entry(&mut sim, Entry::Reset);
+    put_row(&mut out, &sim, count)?;
     for entry in entries {
-        step_entry(sim, *entry);
-        put_row(out, sim, count)?;
+        step_entry(&mut sim, *entry);
+        put_row(&mut out, &sim, count)?;
     }
-    Ok(())
+    Ok(out)
 }
 
 /// `fires`: for the row of the first reset and for each of the rows, a digit for each action in declared order.
 pub(crate) fn answer_fires(alloc: Global, text: &[u8], rows: &[u8]) -> Result<Vec<u8>, Stop> {
     let net = controller(alloc, text)?;
     let entries = entries_of(alloc, rows)?;
-    let mut sim = Sim::new(alloc, &net)?;
-    let count = net.outputs().len();
-    let mut out = String::new(alloc);
-    step_entry(&mut sim, Entry::Reset);
-    put_row(&mut out, &sim, count)?;
-    put_rows(&mut out, &mut sim, count, entries.as_slice())?;
-    Ok(out.into_bytes())
+    Ok(rows_of(alloc, &net, entries.as_slice())?.into_bytes())
 }

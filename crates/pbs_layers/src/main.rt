@@ -8,6 +8,8 @@ mod firing;
 mod front;
 mod overlap;
 mod stop;
+#[cfg(test)]
+mod tests;
 mod trees;
 mod words;
 
