@@ -8,8 +8,6 @@ mod firing;
 mod front;
 mod overlap;
 mod stop;
-#[cfg(test)]
-mod tests;
 mod trees;
 mod words;
 

@@ -10,8 +10,6 @@ mod numbers;
 mod read;
 mod row;
 mod setting;
-#[cfg(test)]
-mod tests;
 mod verdict;
 
 pub use drive::run_files;

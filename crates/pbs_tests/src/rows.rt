@@ -1,6 +1,6 @@
 // Rows that are read, malformed texts, and rows that are tried.
-use crate::{Answer, Found, Limits, NamedText, RowsFail, Subject, Tally, read_rows, try_row};
 use pbs_base::Memory;
+use row_files::{Answer, Found, Limits, NamedText, RowsFail, Subject, Tally, read_rows, try_row};
 use std::alloc::Global;
 use std::test::Fail;
 

@@ -1,0 +1,13 @@
+use Rattle.pbs_check.specs.Checked.{IsUnbroken, By9, By10}
+use Rattle.pbs_tests.proofs.overlap.expanded.Goals as goal
+
+pub expand-requires : goal.expand-requires
+expand-requires c =
+    let spec = c.in-Ok.spec in
+    let keeps : IsUnbroken spec = c.in-Ok-check_spec.ensures in
+    record {
+      inputs = c.within_limits.ensures.inputs spec keeps;
+      actions = c.within_limits.ensures.actions spec keeps;
+      rule_9 = λ span broken. keeps.unbroken 9 span (By9 broken);
+      rule_10 = λ span broken. keeps.unbroken 10 span (By10 broken);
+    }
