@@ -22,12 +22,13 @@ use Rattle.pbs_descent.specs.Descent.{BeginsWith, NoFront, front_refusal, Stops,
 use Rattle.pbs_descent.specs.Descent.{behind_expr, wants_expr, ReadsTerm, ReadsGroup, StopsGroup, ReadsPrim}
 use Rattle.pbs_descent.specs.Descent.{ReadsItem, StopsItem, ReadsSeq, ReadsExpr, StopsExpr, SeqSoFar, ExprSoFar}
 use Rattle.pbs_descent.specs.Descent.{TakesNumeral, ReadsBounds, StopsBounds, ReadsGuard, after_hold, NoOperator}
+use Rattle.pbs_descent.specs.Descent.{ReadsTrap, StopsTrap}
 use Rattle.pbs_text.specs.Grammar.{token, Second, Numeral, ZeroNumeral, OneNumeral, TwoNumeral, DigitNumeral}
 use Rattle.pbs_text.specs.Grammar.{LongNumeral, numeral_kind, operator_kind, TermPhrase, OneAll, MoreAlls, ExprPhrase}
 use Rattle.pbs_text.specs.Grammar.{OneSeq, MoreSeqs, SeqPhrase, OneItem, MoreItems, ItemPhrase, Plain, Repeated}
 use Rattle.pbs_text.specs.Grammar.{Counted, PrimPhrase, Terminal, Action, Call, Grouped, Hold, Try, GroupPhrase}
 use Rattle.pbs_text.specs.Grammar.{EmptyGroup, FullGroup}
-use Rattle.pbs_text.specs.places.Places.{WantsItem, WantsGroup, InGroup, AfterGuard, AfterTrap, AfterPrim}
+use Rattle.pbs_text.specs.places.Places.{WantsItem, WantsGroup, InGroup, AfterGuard, AfterBody, AfterTrap, AfterPrim}
 use Rattle.pbs_text.specs.places.Places.{WantsLeast, AfterLeast, WantsMost, AfterMost, AfterItem}
 use Rattle.pbs_text.specs.places.Steps.{second, numeral_of, with_group, with_item, seq_hole, with_seq, expr_hole}
 use Rattle.pbs_text.specs.places.Steps.{close_group, close_expr, step}
@@ -268,26 +269,49 @@ hold_body_stops two bytes end depth at rest middle x Memory g stops = tt
 hold_body_stops two bytes end depth at rest middle x (Refused r) g stops = λ h d. g.goes_on at h d
     ∙ stops (OfHold at g.open_at g.phrase g.close_at g.colon_at h) d
 
-pub scope_read : (two : Bool) (bytes : List ℕ) (end depth : ℕ) (at abort_at then_at whole : Span)
-    (rest one two_of three four new : List Token) (x y z e : Expr) (ex ey ez : Span)
-    → ReadsGroup two bytes end depth rest x ex one → one ≡ token AbortWord abort_at ∷ two_of
-    → ReadsGroup two bytes end depth two_of y ey three → three ≡ token ThenWord then_at ∷ four
-    → ReadsGroup two bytes end depth four z ez new
-    → whole ≡ joined at ez → e ≡ expr whole (scope_node x y z)
-    → ReadsPrim two bytes end depth (token TryWord at ∷ rest) e whole new
-scope_read two bytes end depth at abort_at then_at whole rest one two_of three four new x y z e ex ey ez a p b q c same
-    made =
-    let all : whole ≡ joined at (group_extent c.phrase) = same ∙ ap (joined at) c.extent_is in
+pub trap_read : (two : Bool) (bytes : List ℕ) (end depth : ℕ) (abort_at then_at : Span)
+    (old one two_of three new : List Token) (x y : Expr) (ex ey : Span) → old ≡ token AbortWord abort_at ∷ one
+    → ReadsGroup two bytes end depth one x ex two_of → two_of ≡ token ThenWord then_at ∷ three
+    → ReadsGroup two bytes end depth three y ey new → ReadsTrap two bytes end depth old x y ey new
+trap_read two bytes end depth abort_at then_at old one two_of three new x y ex ey p b q c =
     record {
-      phrase = Try at a.phrase abort_at b.phrase then_at c.phrase;
-      value_is = made ∙ (ap₂ (λ v w. expr whole (scope_node v w z)) a.value_is b.value_is
-          ∙ ap₂ (λ s w. expr s (scope_node (group_tree bytes a.phrase) (group_tree bytes b.phrase) w)) all c.value_is);
-      extent_is = all;
-      goes_on = λ h d. a.goes_on (OfBody at h) d ∙ rw p (b.goes_on (OfTrap at a.phrase abort_at h) d
-          ∙ rw q (c.goes_on (OfAfter at a.phrase abort_at b.phrase then_at h) d));
-      shorter = let k = a.shorter in let l = b.shorter in let m = c.shorter in let i = ap length p in let j =
-          ap length q in omega arith;
+      abort_at = abort_at;
+      trap = b.phrase;
+      then_at = then_at;
+      after = c.phrase;
+      trap_is = b.value_is;
+      after_is = c.value_is;
+      extent_is = c.extent_is;
+      goes_on = λ at body h d. rw p (b.goes_on (OfTrap at body abort_at h) d
+          ∙ rw q (c.goes_on (OfAfter at body abort_at b.phrase then_at h) d));
+      shorter = let l = b.shorter in let m = c.shorter in let i = ap length p in let j = ap length q in omega arith;
     }
+
+pub scope_read : (two : Bool) (bytes : List ℕ) (end depth : ℕ) (at whole : Span) (rest middle new : List Token)
+    (x y z e : Expr) (ex ez : Span) → ReadsGroup two bytes end depth rest x ex middle
+    → ReadsTrap two bytes end depth middle y z ez new
+    → (e ≡ expr (joined at ez) (scope_node x y z)) × (whole ≡ joined at ez)
+    → ReadsPrim two bytes end depth (token TryWord at ∷ rest) e whole new
+scope_read two bytes end depth at whole rest middle new x y z e ex ez a t made =
+    let all : whole ≡ joined at (group_extent t.after) = made.1 ∙ ap (joined at) t.extent_is in
+    record {
+      phrase = Try at a.phrase t.abort_at t.trap t.then_at t.after;
+      value_is = made.0 ∙ (ap₂ (λ v w. expr (joined at ez) (scope_node v w z)) a.value_is t.trap_is
+          ∙ ap₂ (λ s w. expr (joined at s) (scope_node (group_tree bytes a.phrase) (group_tree bytes t.trap) w))
+          t.extent_is t.after_is);
+      extent_is = all;
+      goes_on = λ h d. a.goes_on (OfBody at h) d ∙ t.goes_on at a.phrase h d;
+      shorter = let k = a.shorter in let l = t.shorter in omega arith;
+    }
+
+stuck_body : {two : Bool} (end : ℕ) (at : Span) (body : GroupPhrase two) (h : ItemHole two) (ts : List Token)
+    → (BeginsWith AbortWord ts → ⊥) → read end (AfterBody at body h) ts ≡ Err (front_refusal end ts)
+stuck_body end at body h [] other = refl
+stuck_body end at body h (t ∷ ts) other = ap (λ s. bind (λ q. read end q ts) (stepped s t.span)) (by t.kind other)
+  where
+    by : (k : TokenKind) → (k ≡ AbortWord → ⊥) → step (AfterBody at body h) k t.span ≡ None
+    by AbortWord no_abort = absurd (no_abort refl)
+    by _ no_abort = refl
 
 stuck_trap : {two : Bool} (end : ℕ) (at : Span) (body : GroupPhrase two) (abort_at : Span) (trap : GroupPhrase two)
     (h : ItemHole two) (ts : List Token) → (BeginsWith ThenWord ts → ⊥)
@@ -300,15 +324,44 @@ stuck_trap end at body abort_at trap h (t ∷ ts) other = ap (λ s. bind (λ q. 
     by ThenWord no_then = absurd (no_then refl)
     by _ no_then = refl
 
-pub scope_stops : (two : Bool) (bytes : List ℕ) (end depth : ℕ) (at abort_at : Span)
-    (rest one two_of three : List Token) (x y : Expr) (ex ey : Span) (e : ReadSpec)
-    → ReadsGroup two bytes end depth rest x ex one → one ≡ token AbortWord abort_at ∷ two_of
-    → ReadsGroup two bytes end depth two_of y ey three → (e ≡ Refused (front_refusal end three)) ×
-    (BeginsWith ThenWord three → ⊥)
-    → StopsItem two end depth (token TryWord at ∷ rest) e
-scope_stops two bytes end depth at abort_at rest one two_of three x y ex ey e a f b stop =
-    rw (stop.0) (λ h d. a.goes_on (OfBody at h) d ∙ rw f (b.goes_on (OfTrap at a.phrase abort_at h) d
-    ∙ stuck_trap end at a.phrase abort_at b.phrase h three stop.1))
+pub trap_no_abort : (two : Bool) (end depth : ℕ) (old : List Token) (e : ReadSpec)
+    → (e ≡ Refused (front_refusal end old)) × (BeginsWith AbortWord old → ⊥) → StopsTrap two end depth old e
+trap_no_abort two end depth old e stop = rw (stop.0) (λ at body h d. stuck_body end at body h old stop.1)
+
+pub trap_stops : (two : Bool) (end depth : ℕ) (abort_at : Span) (old one : List Token) (e : ReadSpec)
+    → old ≡ token AbortWord abort_at ∷ one → StopsGroup two end depth one e → StopsTrap two end depth old e
+trap_stops two end depth abort_at old one Memory f stops = tt
+trap_stops two end depth abort_at old one (Refused r) f stops = λ at body h d. rw f
+    (stops (OfTrap at body abort_at h) d)
+
+pub trap_no_then : (two : Bool) (bytes : List ℕ) (end depth : ℕ) (abort_at : Span) (old one two_of : List Token)
+    (x : Expr) (ex : Span) (e : ReadSpec) → old ≡ token AbortWord abort_at ∷ one
+    → ReadsGroup two bytes end depth one x ex two_of
+    → (e ≡ Refused (front_refusal end two_of)) × (BeginsWith ThenWord two_of → ⊥) → StopsTrap two end depth old e
+trap_no_then two bytes end depth abort_at old one two_of x ex e f b stop =
+    rw (stop.0) (λ at body h d. rw f (b.goes_on (OfTrap at body abort_at h) d
+    ∙ stuck_trap end at body abort_at b.phrase h two_of stop.1))
+
+pub trap_after_stops : (two : Bool) (bytes : List ℕ) (end depth : ℕ) (abort_at then_at : Span)
+    (old one two_of three : List Token) (x : Expr) (ex : Span) (e : ReadSpec) → old ≡ token AbortWord abort_at ∷ one
+    → ReadsGroup two bytes end depth one x ex two_of → two_of ≡ token ThenWord then_at ∷ three
+    → StopsGroup two end depth three e → StopsTrap two end depth old e
+trap_after_stops two bytes end depth abort_at then_at old one two_of three x ex Memory f b g stops = tt
+trap_after_stops two bytes end depth abort_at then_at old one two_of three x ex (Refused r) f b g stops =
+    λ at body h d. rw f (b.goes_on (OfTrap at body abort_at h) d
+    ∙ rw g (stops (OfAfter at body abort_at b.phrase then_at h) d))
+
+pub scope_body_stops : (two : Bool) (end depth : ℕ) (at : Span) (rest : List Token) (e : ReadSpec)
+    → StopsGroup two end depth rest e → StopsItem two end depth (token TryWord at ∷ rest) e
+scope_body_stops two end depth at rest Memory stops = tt
+scope_body_stops two end depth at rest (Refused r) stops = λ h d. stops (OfBody at h) d
+
+pub scope_stops : (two : Bool) (bytes : List ℕ) (end depth : ℕ) (at : Span) (rest middle : List Token) (x : Expr)
+    (ex : Span) (e : ReadSpec) → ReadsGroup two bytes end depth rest x ex middle
+    → StopsTrap two end depth middle e → StopsItem two end depth (token TryWord at ∷ rest) e
+scope_stops two bytes end depth at rest middle x ex Memory a stops = tt
+scope_stops two bytes end depth at rest middle x ex (Refused r) a stops = λ h d. a.goes_on (OfBody at h) d
+    ∙ stops at a.phrase h d
 
 -- ---- item
 
@@ -348,14 +401,15 @@ takes_operator end p PlusOp at h z = refl
 takes_operator end p OptOp at h z = refl
 
 pub item_repeated : (two : Bool) (bytes : List ℕ) (end depth : ℕ) (old behind new : List Token) (x e : Expr)
-    (extent whole : Span) (op : Operator) (at : Span) → whole ≡ joined extent at → e ≡ expr whole (operator_node op x)
+    (extent whole : Span) (op : Operator) (at : Span)
+    → (e ≡ expr (joined extent at) (operator_node op x)) × (whole ≡ joined extent at)
     → behind ≡ token (operator_kind op) at ∷ new → ReadsPrim two bytes end depth old x extent behind
     → ReadsItem two bytes end depth old e whole new
-item_repeated two bytes end depth old behind new x e extent whole op at same made f r =
-    let all : whole ≡ joined (prim_extent r.phrase) at = same ∙ ap (λ s. joined s at) r.extent_is in
+item_repeated two bytes end depth old behind new x e extent whole op at made f r =
+    let all : whole ≡ joined (prim_extent r.phrase) at = made.1 ∙ ap (λ s. joined s at) r.extent_is in
     record {
       phrase = Repeated r.phrase op at;
-      value_is = made ∙ ap₂ (λ s v. expr s (operator_node op v)) all r.value_is;
+      value_is = made.0 ∙ ap₂ (λ s v. expr (joined s at) (operator_node op v)) r.extent_is r.value_is;
       extent_is = all;
       goes_on = λ h d. r.goes_on h d ∙ rw f (takes_operator end r.phrase op at h new);
       shorter = let less = r.shorter in let one = ap length f in omega arith;

@@ -6,14 +6,16 @@ use Rattle.pbs_ast.specs.declared.syntax.SpecTerm.{SpecTerm}
 use Rattle.pbs_ast.specs.declared.syntax.Expr.{Expr}
 use Rattle.pbs_text.specs.Bare.{no_place}
 use Rattle.pbs_text.specs.Grammar.{token, Second, Numeral, numeral_kind, TermPhrase, OneAll, MoreAlls, SeqPhrase}
-use Rattle.pbs_text.specs.Grammar.{OneItem, MoreItems, Counted, ExprPhrase, OneSeq, MoreSeqs, PrimPhrase}
+use Rattle.pbs_text.specs.Grammar.{OneItem, MoreItems, Counted, ExprPhrase, OneSeq, MoreSeqs, PrimPhrase, Try}
+use Rattle.pbs_text.specs.Grammar.{GroupPhrase}
 use Rattle.pbs_text.specs.Trees.{numeral_value, unit_tree, all_tree, term_tree, all_items, term_items, seq_items}
 use Rattle.pbs_text.specs.Trees.{expr_items, group_tree, prim_tree, item_tree, seq_tree, expr_tree, group_extent}
 use Rattle.pbs_text.specs.Trees.{prim_extent, item_extent, seq_extent, expr_extent}
 use Rattle.pbs_text.specs.Holes.{ExprHole, SeqHole, FirstSeq, NextSeq, ItemHole, FirstItem, NextItem, OfHold}
 use Rattle.pbs_text.specs.Holes.{TermHole, AllHole, FirstAll, NextAll, FirstUnit, expr_nesting, seq_nesting}
 use Rattle.pbs_text.specs.Holes.{item_nesting, group_nesting, term_nesting, all_nesting, unit_nesting}
-use Rattle.pbs_text.specs.places.Places.{Place, WantsItem, WantsGroup, AfterHold, AfterPrim, AfterItem, WantsLeast}
+use Rattle.pbs_text.specs.places.Places.{Place, WantsItem, WantsGroup, AfterHold, AfterBody, AfterPrim, AfterItem}
+use Rattle.pbs_text.specs.places.Places.{WantsLeast}
 use Rattle.pbs_text.specs.places.Places.{WantsUnit, AfterUnit}
 use Rattle.pbs_text.specs.places.Steps.{with_unit, with_group}
 use Rattle.pbs_text.specs.places.Reading.{read}
@@ -188,6 +190,25 @@ pub record ReadsGuard (two : Bool) (bytes : List ℕ) (end depth : ℕ) (old : L
   pub value_is : x ≡ term_tree bytes phrase
   pub goes_on : (at : Span) (h : ItemHole two) → item_nesting h ≡ depth
       → read end (AfterHold at h) old ≡ read end (WantsGroup (OfHold at open_at phrase close_at colon_at h)) new
+
+-- 'abort' group 'then' group behind a scope's body
+pub record ReadsTrap (two : Bool) (bytes : List ℕ) (end depth : ℕ) (old : List Token) (x y : Expr) (extent : Span)
+    (new : List Token) : Type 0 where
+  pub abort_at : Span
+  pub trap : GroupPhrase two
+  pub then_at : Span
+  pub after : GroupPhrase two
+  pub trap_is : x ≡ group_tree bytes trap
+  pub after_is : y ≡ group_tree bytes after
+  pub extent_is : extent ≡ group_extent after
+  pub goes_on : (at : Span) (body : GroupPhrase two) (h : ItemHole two) → item_nesting h ≡ depth
+      → read end (AfterBody at body h) old ≡ read end (AfterPrim (Try at body abort_at trap then_at after) h) new
+  pub shorter : length new < length old
+
+abbrev pub StopsTrap : Bool → ℕ → ℕ → List Token → ReadSpec → Type 0
+StopsTrap two end depth old Memory = Unit {0}
+StopsTrap two end depth old (Refused r) = (at : Span) (body : GroupPhrase two) (h : ItemHole two)
+    → item_nesting h ≡ depth → read end (AfterBody at body h) old ≡ Err r
 
 abbrev pub after_hold : {two : Bool} → Span → ItemHole two → Place
 after_hold at h = AfterHold at h

@@ -1,13 +1,13 @@
 // Expressions.
 ghost use Rattle.std.specs.Prelude.{ℕ, ◌≡◌, ◌≤◌, ◌<◌, ◌+◌, ◌∷◌, ◌++◌, [], length, true, IfOk, IfErr, MatchOption};
 ghost use Rattle.pbs_text.specs.Bare.{bare_term, bare_expr, expr};
-ghost use Rattle.pbs_text.specs.Trees.{joined, repeat_node, word_at};
+ghost use Rattle.pbs_text.specs.Trees.{joined, operator_node, repeat_node, scope_node, word_at};
 ghost use Rattle.pbs_text.specs.Grammar.{token};
 ghost use Rattle.pbs_text.specs.places.Places.{WantsItem};
 ghost use Rattle.pbs_text.specs.Holes.{item_nesting};
 ghost use Rattle.pbs_descent.specs.Descent.{Stops, ReadsGroup, StopsGroup, ReadsPrim, ReadsItem, StopsItem};
 ghost use Rattle.pbs_descent.specs.Descent.{ReadsSeq, StopsSeq, ReadsExpr, StopsExpr, ReadsBounds, StopsBounds};
-ghost use Rattle.pbs_descent.specs.Descent.{ReadsGuard, after_hold, BeginsWith};
+ghost use Rattle.pbs_descent.specs.Descent.{ReadsGuard, after_hold, ReadsTrap, StopsTrap, BeginsWith};
 ghost use Rattle.pbs_text.specs.declared.token.TokenKind.TheVariants.{Name, OpenCurly, OpenSquare, HoldWord, TryWord};
 ghost use Rattle.pbs_text.specs.declared.token.TokenKind.TheVariants.{Comma, Bar};
 
@@ -19,7 +19,7 @@ use crate::nodes::{hold_of, operator_of, repeat_of, scope_of};
 use crate::terms::term;
 use pbs_ast::{Expr, Kind, SpecTerm};
 use pbs_base::{Listed, Span};
-use pbs_text::{ReadSpec, Token, TokenKind};
+use pbs_text::{Operator, ReadSpec, Token, TokenKind};
 use std::alloc::Global;
 
 /// A node, and the whole of what was read for it, its brackets included.
@@ -219,6 +219,41 @@ fn hold<'a>(
     Ok((Part { tree, extent }, rest))
 }
 
+// A scope of what was read for its parts.
+fn scoped(alloc: Global, at: Span, body: Part, trap: Part, after: Part) -> Result<Part, ReadSpec>
+    ensures value { IfOk result
+        (λ part. (bare_expr part.tree ≡ expr (joined at after.extent)
+        (scope_node (bare_expr body.tree) (bare_expr trap.tree) (bare_expr after.tree))) ×
+        (part.extent ≡ joined at after.extent)) }
+    ensures memory { IfErr result (λ e. e ≡ ReadSpec.Memory) }
+{
+    let extent = joined(at, after.extent);
+    let tree = scope_of(alloc, body.tree, trap.tree, after.tree, extent)?;
+    Ok(Part { tree, extent })
+}
+
+// 'abort' group 'then' group behind the body of a scope
+#[cycle(exprs)]
+fn trap_and_after<'a>(
+    alloc: Global,
+    bytes: &[u8],
+    two: bool,
+    tokens: &'a [Token],
+    depth: u32,
+    end: u32,
+) -> Result<(Part, Part, &'a [Token]), ReadSpec>
+    requires { depth ≤ 64 }
+    ensures ok { IfOk result (λ x. ReadsTrap two bytes.now end depth tokens.now (bare_expr x.0.tree)
+        (bare_expr x.1.tree) x.1.extent x.2.now) }
+    ensures err { IfErr result (λ e. StopsTrap two end depth tokens.now e) }
+{
+    let (_, rest) = expect(tokens, Mark::Abort, end)?;
+    let (trap, rest) = group(alloc, bytes, two, rest, depth, end)?;
+    let (_, rest) = expect(rest, Mark::Then, end)?;
+    let (after, rest) = group(alloc, bytes, two, rest, depth, end)?;
+    Ok((trap, after, rest))
+}
+
 // group 'abort' group 'then' group behind a 'try'
 #[cycle(exprs)]
 fn scope<'a>(
@@ -236,13 +271,8 @@ fn scope<'a>(
     ensures err { IfErr result (λ e. StopsItem two end depth (token TryWord at ∷ rest.now) e) }
 {
     let (body, rest) = group(alloc, bytes, two, rest, depth, end)?;
-    let (_, rest) = expect(rest, Mark::Abort, end)?;
-    let (trap, rest) = group(alloc, bytes, two, rest, depth, end)?;
-    let (_, rest) = expect(rest, Mark::Then, end)?;
-    let (after, rest) = group(alloc, bytes, two, rest, depth, end)?;
-    let extent = joined(at, after.extent);
-    let tree = scope_of(alloc, body.tree, trap.tree, after.tree, extent)?;
-    Ok((Part { tree, extent }, rest))
+    let (trap, after, rest) = trap_and_after(alloc, bytes, two, rest, depth, end)?;
+    Ok((scoped(alloc, at, body, trap, after)?, rest))
 }
 
 // prim := '[' term ']' | '{' name '}' | name | group | 'hold' .. | 'try' ..
@@ -288,6 +318,18 @@ fn counted(alloc: Global, inner: Part, copies: Copies) -> Result<Part, ReadSpec>
     Ok(Part { tree, extent })
 }
 
+// operator behind an item's prim
+fn repeated(alloc: Global, inner: Part, op: Operator, at: Span) -> Result<Part, ReadSpec>
+    ensures value { IfOk result
+        (λ part. (bare_expr part.tree ≡ expr (joined inner.extent at) (operator_node op (bare_expr inner.tree))) ×
+        (part.extent ≡ joined inner.extent at)) }
+    ensures memory { IfErr result (λ e. e ≡ ReadSpec.Memory) }
+{
+    let extent = joined(inner.extent, at);
+    let tree = operator_of(alloc, op, inner.tree, extent)?;
+    Ok(Part { tree, extent })
+}
+
 // item := prim [[ '*' | '+' | '?' ]] | prim '{' number ',' number '}'
 #[cycle(exprs)]
 fn item<'a>(
@@ -311,9 +353,7 @@ fn item<'a>(
     let Some((op, at, rest)) = operator(rest) else {
         return Ok((inner, rest));
     };
-    let extent = joined(inner.extent, at);
-    let tree = operator_of(alloc, op, inner.tree, extent)?;
-    Ok((Part { tree, extent }, rest))
+    Ok((repeated(alloc, inner, op, at)?, rest))
 }
 
 // seq := item {{ ',' item }}

@@ -66,6 +66,15 @@ pub(crate) fn hold_of(
     })
 }
 
+fn boxed_pair(alloc: Global, first: Expr, second: Expr) -> Result<(Box<Expr>, Box<Expr>), ReadSpec>
+    ensures value { IfOk result (λ x. (x.0.value ≡ first) × (x.1.value ≡ second)) }
+    ensures memory { IfErr result (λ e. e ≡ ReadSpec.Memory) }
+{
+    let first = Box::new(alloc, first)?;
+    let second = Box::new(alloc, second)?;
+    Ok((first, second))
+}
+
 pub(crate) fn scope_of(
     alloc: Global,
     body: Expr,
@@ -77,8 +86,7 @@ pub(crate) fn scope_of(
         (scope_node (bare_expr body) (bare_expr trap) (bare_expr after))) }
     ensures memory { IfErr result (λ e. e ≡ ReadSpec.Memory) }
 {
-    let body = Box::new(alloc, body)?;
-    let trap = Box::new(alloc, trap)?;
+    let (body, trap) = boxed_pair(alloc, body, trap)?;
     let after = Box::new(alloc, after)?;
     Ok(Expr {
         span,

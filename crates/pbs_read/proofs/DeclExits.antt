@@ -5,24 +5,24 @@ use Rattle.std.specs.Prelude.{option_map}
 use Rattle.std.proofs.lemmas.Bool.{false≢true}
 use Rattle.pbs_ast.specs.declared.syntax.Expr.{Expr}
 use Rattle.pbs_text.specs.declared.fail.ReadSpec.{ReadSpec}
-use Rattle.pbs_text.specs.declared.fail.ReadSpec.TheVariants.{Refused}
+use Rattle.pbs_text.specs.declared.fail.ReadSpec.TheVariants.{Memory, Refused}
 use Rattle.pbs_text.specs.Trees.{width_value, word_at, declared, input_of, inputs_of, names_of}
 use Rattle.pbs_text.specs.places.Reading.{stepped, bind, read}
-use Rattle.pbs_descent.specs.Descent.{BeginsWith, NoFront, front_refusal, behind_expr, ReadsExpr}
+use Rattle.pbs_descent.specs.Descent.{BeginsWith, NoFront, front_refusal, behind_expr, ReadsExpr, StopsExpr}
 use Rattle.pbs_read.specs.DeclDescent.{TakesBit, ReadsWidth, StopsWidth, ReadsInput}
 use Rattle.pbs_read.specs.DeclDescent.{ReadsSet, ReadsSets}
 use Rattle.pbs_read.specs.DeclDescent.{ReadsLevelHead, ReadsLevel, ReadsProd}
-use Rattle.pbs_read.specs.DeclDescent.{StopsProd}
+use Rattle.pbs_read.specs.DeclDescent.{ReadsRightSide, StopsRightSide, StopsProd}
 use Rattle.pbs_text.specs.Grammar.{token, Second, bit_kind, Width, OneBit, TwoBits, MoreBits, width_kind, ExprPhrase}
 use Rattle.pbs_text.specs.Grammar.{OneSeq, MoreSeqs, OneItem, MoreItems, OneWire, Bus, InputsPhrase}
 use Rattle.pbs_text.specs.Grammar.{OneInput, MoreInputs, NamesPhrase, OneName, MoreNames, SetsPhrase}
-use Rattle.pbs_text.specs.Grammar.{MoreSets, ProdDecl}
-use Rattle.pbs_text.specs.Holes.{Front, OfProd}
+use Rattle.pbs_text.specs.Grammar.{MoreSets, ProdDecl, OfVersion}
+use Rattle.pbs_text.specs.Holes.{Front, OfProd, OfMain}
 use Rattle.pbs_text.specs.places.Places.{InputHole, FirstInput, NextInput, FirstName, LevelFront}
 use Rattle.pbs_text.specs.places.Places.{Place, InDecls, WantsInput, AfterInputName, WantsWidth, AfterInput}
 use Rattle.pbs_text.specs.places.Places.{WantsName, AfterName, AfterLevelEquals, AfterLevelBit}
-use Rattle.pbs_text.specs.places.Places.{AfterSetColon, AfterSetBit, before}
-use Rattle.pbs_text.specs.places.Steps.{bit_of, width_of, with_next, level_front, step}
+use Rattle.pbs_text.specs.places.Places.{AfterSetColon, AfterSetBit, AfterProdName, AfterMain, Whole, before}
+use Rattle.pbs_text.specs.places.Steps.{bit_of, width_of, with_next, level_front, whole_spec, step}
 use Rattle.pbs_ast.specs.declared.syntax.Decl.{Decl}
 use Rattle.pbs_ast.specs.declared.syntax.Set.{Set}
 use Rattle.pbs_ast.specs.declared.syntax.Level.{Level}
@@ -302,29 +302,87 @@ closes_prod end (OneSeq (MoreItems s b i)) f a n q c new = refl
 closes_prod end (MoreSeqs e x (OneItem i)) f a n q c new = refl
 closes_prod end (MoreSeqs e x (MoreItems s b i)) f a n q c new = refl
 
-pub prod_read : (two : Bool) (bytes : List ℕ) (end : ℕ) (old one two_of three new : List Token) (n q c : Span)
-    (word : List ℕ) (x : Expr) (extent : Span) → old ≡ token Name n ∷ one → one ≡ token Equals q ∷ two_of
-    → ReadsExpr two bytes end 0 two_of x extent three → three ≡ token Semicolon c ∷ new → word ≡ word_at bytes n
+closes_main : {two : Bool} (end : ℕ) (e : ExprPhrase two) (f : Front two) (m q c : Span) (new : List Token)
+    → read end (behind_expr e (OfMain f m q)) (token Semicolon c ∷ new) ≡ read end
+    (Whole (OfVersion two (whole_spec f m q e c))) new
+closes_main end (OneSeq (OneItem i)) f m q c new = refl
+closes_main end (OneSeq (MoreItems s b i)) f m q c new = refl
+closes_main end (MoreSeqs e x (OneItem i)) f m q c new = refl
+closes_main end (MoreSeqs e x (MoreItems s b i)) f m q c new = refl
+
+stuck_name : {two : Bool} (end : ℕ) (f : Front two) (at n : Span) (ts : List Token) → (BeginsWith Equals ts → ⊥)
+    → read end (AfterProdName f at n) ts ≡ Err (front_refusal end ts)
+stuck_name end f at n [] other = refl
+stuck_name end f at n (t ∷ ts) other = ap (λ s. bind (λ q. read end q ts) (stepped s t.span)) (by t.kind other)
+  where
+    by : (k : TokenKind) → (k ≡ Equals → ⊥) → step (AfterProdName f at n) k t.span ≡ None
+    by Equals no_equals = absurd (no_equals refl)
+    by _ no_equals = refl
+
+stuck_main : {two : Bool} (end : ℕ) (f : Front two) (at : Span) (ts : List Token) → (BeginsWith Equals ts → ⊥)
+    → read end (AfterMain f at) ts ≡ Err (front_refusal end ts)
+stuck_main end f at [] other = refl
+stuck_main end f at (t ∷ ts) other = ap (λ s. bind (λ q. read end q ts) (stepped s t.span)) (by t.kind other)
+  where
+    by : (k : TokenKind) → (k ≡ Equals → ⊥) → step (AfterMain f at) k t.span ≡ None
+    by Equals no_equals = absurd (no_equals refl)
+    by _ no_equals = refl
+
+pub right_side_read : (two : Bool) (bytes : List ℕ) (end : ℕ) (old one two_of new : List Token) (q c : Span)
+    (x : Expr) (extent : Span) → old ≡ token Equals q ∷ one → ReadsExpr two bytes end 0 one x extent two_of
+    → two_of ≡ token Semicolon c ∷ new → ReadsRightSide two bytes end old x new
+right_side_read two bytes end old one two_of new q c x extent f r g =
+    record {
+      equals_at = q;
+      phrase = r.phrase;
+      end_at = c;
+      value_is = r.value_is;
+      after_name = λ h at n. rw f (r.goes_on (OfProd h at n q) refl ∙ rw g (closes_prod end r.phrase h at n q c new));
+      after_main = λ h m. rw f (r.goes_on (OfMain h m q) refl ∙ rw g (closes_main end r.phrase h m q c new));
+      shorter = let i = ap length f in let j = r.shorter in let k = ap length g in omega arith;
+    }
+
+pub right_side_no_equals : (two : Bool) (end : ℕ) (old : List Token) (e : ReadSpec)
+    → (e ≡ Refused (front_refusal end old)) × (BeginsWith Equals old → ⊥) → StopsRightSide two end old e
+right_side_no_equals two end old e stop =
+    rw (stop.0) ((λ h at n. stuck_name end h at n old stop.1), (λ h m. stuck_main end h m old stop.1))
+
+pub right_side_stops : (two : Bool) (end : ℕ) (old one : List Token) (q : Span) (e : ReadSpec)
+    → old ≡ token Equals q ∷ one → StopsExpr two end 0 one e → StopsRightSide two end old e
+right_side_stops two end old one q Memory f stops = tt
+right_side_stops two end old one q (Refused r) f stops =
+    ((λ h at n. rw f (stops (OfProd h at n q) refl)), (λ h m. rw f (stops (OfMain h m q) refl)))
+
+pub right_side_unended : (two : Bool) (bytes : List ℕ) (end : ℕ) (old one two_of : List Token) (q : Span) (x : Expr)
+    (extent : Span) (e : ReadSpec) → old ≡ token Equals q ∷ one → ReadsExpr two bytes end 0 one x extent two_of
+    → (BeginsWith Comma two_of → ⊥) → (BeginsWith Bar two_of → ⊥)
+    → (e ≡ Refused (front_refusal end two_of)) × (BeginsWith Semicolon two_of → ⊥) → StopsRightSide two end old e
+right_side_unended two bytes end old one two_of q x extent e f r a b stop =
+    rw (stop.0) (
+      (λ h at n. rw f (r.goes_on (OfProd h at n q) refl
+          ∙ unclosed end r.phrase (OfProd h at n q) two_of a b (λ _ _. refl) (λ _ k. absurd (stop.1 k)))),
+      (λ h m. rw f (r.goes_on (OfMain h m q) refl
+          ∙ unclosed end r.phrase (OfMain h m q) two_of a b (λ _ _. refl) (λ _ k. absurd (stop.1 k)))),
+    )
+
+pub prod_read : (two : Bool) (bytes : List ℕ) (end : ℕ) (old one new : List Token) (n : Span) (word : List ℕ)
+    (x : Expr) → old ≡ token Name n ∷ one → ReadsRightSide two bytes end one x new → word ≡ word_at bytes n
     → ReadsProd two bytes end old (record { name = word; span = n; body = x }) new
-prod_read two bytes end old one two_of three new n q c word x extent e f r g w =
+prod_read two bytes end old one new n word x e r w =
     record {
       name_at = n;
-      equals_at = q;
+      equals_at = r.equals_at;
       body = r.phrase;
-      end_at = c;
+      end_at = r.end_at;
       value_is = ap₂ made w r.value_is;
-      goes_on = λ h at. rw e (rw f (r.goes_on (OfProd h at n q) refl ∙ rw g (closes_prod end r.phrase h at n q c new)));
-      shorter = let i = ap length e in let j = ap length f in let k = r.shorter in let m = ap length g in omega arith;
+      goes_on = λ h at. rw e (r.after_name h at n);
+      shorter = let i = ap length e in let k = r.shorter in omega arith;
     }
   where
     made : List ℕ → Expr → Prod
     made v y = record { name = v; span = n; body = y }
 
-pub prod_unended : (two : Bool) (bytes : List ℕ) (end : ℕ) (old one two_of three : List Token) (n q : Span) (x : Expr)
-    (extent : Span) (e : ReadSpec) → old ≡ token Name n ∷ one → one ≡ token Equals q ∷ two_of
-    → ReadsExpr two bytes end 0 two_of x extent three → (BeginsWith Comma three → ⊥) → (BeginsWith Bar three → ⊥)
-    → (e ≡ Refused (front_refusal end three)) × (BeginsWith Semicolon three → ⊥) → StopsProd two end old e
-prod_unended two bytes end old one two_of three n q x extent e f g r a b stop =
-    rw (stop.0)
-    (λ h at. rw f (rw g (r.goes_on (OfProd h at n q) refl
-    ∙ unclosed end r.phrase (OfProd h at n q) three a b (λ _ _. refl) (λ _ k. absurd (stop.1 k)))))
+pub prod_stops : (two : Bool) (end : ℕ) (old one : List Token) (n : Span) (e : ReadSpec)
+    → old ≡ token Name n ∷ one → StopsRightSide two end one e → StopsProd two end old e
+prod_stops two end old one n Memory f stops = tt
+prod_stops two end old one n (Refused r) f stops = λ h at. rw f (stops.0 h at n)

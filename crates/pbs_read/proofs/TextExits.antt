@@ -6,18 +6,18 @@ use Rattle.pbs_ast.specs.declared.syntax.Expr.{Expr}
 use Rattle.pbs_text.specs.declared.fail.ReadSpec.{ReadSpec}
 use Rattle.pbs_text.specs.declared.fail.ReadSpec.TheVariants.{Memory, Refused}
 use Rattle.pbs_text.specs.places.Reading.{stepped, bind, read}
-use Rattle.pbs_descent.specs.Descent.{BeginsWith, NoFront, front_refusal, behind_expr, ReadsExpr}
+use Rattle.pbs_descent.specs.Descent.{BeginsWith, NoFront, front_refusal}
 use Rattle.pbs_text.specs.Bare.{bare_prod}
 use Rattle.pbs_text.specs.Trees.{Declared, with_decl}
 use Rattle.pbs_read.specs.DeclDescent.{ReadsInputs, ReadsNames}
-use Rattle.pbs_read.specs.DeclDescent.{ReadsLevel, ReadsProd}
+use Rattle.pbs_read.specs.DeclDescent.{ReadsLevel, ReadsRightSide, StopsRightSide, ReadsProd}
 use Rattle.pbs_read.specs.TextDescent.{bare_lists, made_spec, decl_word, decl_kind, behind_word}
 use Rattle.pbs_read.specs.TextDescent.{ReadsVersion, StopsVersion, TakesDeclWord, ReadsDecl, StopsDecl}
 use Rattle.pbs_read.specs.TextDescent.{ReadsDecls, StopsDecls, ReadsMain, StopsMain, ReadsText}
-use Rattle.pbs_text.specs.Grammar.{token, version_kind, ExprPhrase, OneSeq, MoreSeqs, OneItem, MoreItems, InputDecl}
+use Rattle.pbs_text.specs.Grammar.{token, version_kind, InputDecl}
 use Rattle.pbs_text.specs.Grammar.{ActionDecl, LevelDecl, ProdDecl, DeclsPhrase, MoreDecls, OfVersion}
-use Rattle.pbs_text.specs.Holes.{Front, OfProd, OfMain}
-use Rattle.pbs_text.specs.places.Places.{AfterSpec, AfterVersion, InDecls, Whole}
+use Rattle.pbs_text.specs.Holes.{Front}
+use Rattle.pbs_text.specs.places.Places.{AfterSpec, AfterVersion, InDecls}
 use Rattle.pbs_text.specs.places.Steps.{version_of, whole_spec, first_front, step}
 use Rattle.std.proofs.lemmas.List.{map-append}
 use Rattle.pbs_ast.specs.declared.syntax.Decl.{Decl}
@@ -31,8 +31,7 @@ use Rattle.pbs_base.specs.declared.refusal.Span.{Span}
 use Rattle.pbs_text.specs.declared.token.Token.{Token}
 use Rattle.pbs_text.specs.declared.token.TokenKind.{TokenKind}
 use Rattle.pbs_text.specs.declared.token.TokenKind.TheVariants.{One, Two, SpecWord, InputWord, ActionWord, LevelWord}
-use Rattle.pbs_text.specs.declared.token.TokenKind.TheVariants.{ProdWord, MainWord, Semicolon, Comma, Equals, Bar}
-use Rattle.pbs_descent.proofs.ExprExits.{unclosed}
+use Rattle.pbs_text.specs.declared.token.TokenKind.TheVariants.{ProdWord, MainWord, Semicolon}
 
 -- ---- the version
 
@@ -195,46 +194,30 @@ decls_stop two bytes end old rest after lists found (Refused r) t s stops =
 
 -- ---- main
 
-closes_main : {two : Bool} (end : ℕ) (e : ExprPhrase two) (f : Front two) (m q c : Span) (new : List Token)
-    → read end (behind_expr e (OfMain f m q)) (token Semicolon c ∷ new) ≡ read end
-    (Whole (OfVersion two (whole_spec f m q e c))) new
-closes_main end (OneSeq (OneItem i)) f m q c new = refl
-closes_main end (OneSeq (MoreItems s b i)) f m q c new = refl
-closes_main end (MoreSeqs e x (OneItem i)) f m q c new = refl
-closes_main end (MoreSeqs e x (MoreItems s b i)) f m q c new = refl
-
-pub main_read : (two : Bool) (bytes : List ℕ) (end : ℕ) (old one two_of three new : List Token) (m q c : Span)
-    (x : Expr) (extent : Span) → old ≡ token MainWord m ∷ one → one ≡ token Equals q ∷ two_of
-    → ReadsExpr two bytes end 0 two_of x extent three → three ≡ token Semicolon c ∷ new → length new ≡ 0
+pub main_read : (two : Bool) (bytes : List ℕ) (end : ℕ) (old one new : List Token) (m : Span) (x : Expr)
+    → old ≡ token MainWord m ∷ one → ReadsRightSide two bytes end one x new → length new ≡ 0
     → ReadsMain two bytes end old x
-main_read two bytes end old one two_of three [] m q c x extent e f r g none =
+main_read two bytes end old one [] m x e r none =
     record {
       main_at = m;
-      equals_at = q;
+      equals_at = r.equals_at;
       phrase = r.phrase;
-      end_at = c;
+      end_at = r.end_at;
       value_is = r.value_is;
-      goes_on = λ h. rw e (rw f (r.goes_on (OfMain h m q) refl ∙ rw g (closes_main end r.phrase h m q c [])));
+      goes_on = λ h. rw e (r.after_main h m);
     }
-main_read two bytes end old one two_of three (t ∷ new) m q c x extent e f r g none = absurd (omega arith)
+main_read two bytes end old one (t ∷ new) m x e r none = absurd (omega arith)
 
-pub main_unended : (two : Bool) (bytes : List ℕ) (end : ℕ) (old one two_of three : List Token) (m q : Span) (x : Expr)
-    (extent : Span) (e : ReadSpec) → old ≡ token MainWord m ∷ one → one ≡ token Equals q ∷ two_of
-    → ReadsExpr two bytes end 0 two_of x extent three → (BeginsWith Comma three → ⊥) → (BeginsWith Bar three → ⊥)
-    → (e ≡ Refused (front_refusal end three)) × (BeginsWith Semicolon three → ⊥) → StopsMain two end old e
-main_unended two bytes end old one two_of three m q x extent e f g r a b stop =
-    rw (stop.0)
-    (λ h. rw f
-    (rw g (r.goes_on (OfMain h m q) refl ∙ unclosed end r.phrase (OfMain h m q) three a b (λ _ _. refl)
-    (λ _ k. absurd (stop.1 k)))))
+pub main_stops : (two : Bool) (end : ℕ) (old one : List Token) (m : Span) (e : ReadSpec)
+    → old ≡ token MainWord m ∷ one → StopsRightSide two end one e → StopsMain two end old e
+main_stops two end old one m Memory f stops = tt
+main_stops two end old one m (Refused r) f stops = λ h. rw f (stops.1 h m)
 
-pub main_more : (two : Bool) (bytes : List ℕ) (end : ℕ) (old one two_of three new : List Token) (m q c : Span)
-    (x : Expr) (extent : Span) → old ≡ token MainWord m ∷ one → one ≡ token Equals q ∷ two_of
-    → ReadsExpr two bytes end 0 two_of x extent three → three ≡ token Semicolon c ∷ new → 0 < length new
+pub main_more : (two : Bool) (bytes : List ℕ) (end : ℕ) (old one new : List Token) (m : Span) (x : Expr)
+    → old ≡ token MainWord m ∷ one → ReadsRightSide two bytes end one x new → 0 < length new
     → StopsMain two end old (Refused (front_refusal end new))
-main_more two bytes end old one two_of three [] m q c x extent e f r g some = absurd (omega arith)
-main_more two bytes end old one two_of three (t ∷ new) m q c x extent e f r g some = λ h. rw e
-    (rw f (r.goes_on (OfMain h m q) refl ∙ rw g (closes_main end r.phrase h m q c (t ∷ new))))
+main_more two bytes end old one [] m x e r some = absurd (omega arith)
+main_more two bytes end old one (t ∷ new) m x e r some = λ h. rw e (r.after_main h m)
 
 -- ---- the text
 

@@ -5,17 +5,18 @@ use Rattle.pbs_ast.specs.declared.syntax.Decl.{Decl}
 use Rattle.pbs_ast.specs.declared.syntax.Set.{Set}
 use Rattle.pbs_ast.specs.declared.syntax.Level.{Level}
 use Rattle.pbs_ast.specs.declared.syntax.Prod.{Prod}
+use Rattle.pbs_ast.specs.declared.syntax.Expr.{Expr}
 use Rattle.pbs_text.specs.declared.fail.ReadSpec.{ReadSpec}
 use Rattle.pbs_text.specs.declared.fail.ReadSpec.TheVariants.{Memory, Refused}
 use Rattle.pbs_text.specs.declared.token.Token.{Token}
 use Rattle.pbs_text.specs.Grammar.{token, bit_kind, InputPhrase, InputsPhrase, NamesPhrase, SetsPhrase, NoSets}
-use Rattle.pbs_text.specs.Grammar.{MoreSets, InputDecl, ActionDecl, LevelDecl, ProdDecl, ExprPhrase}
+use Rattle.pbs_text.specs.Grammar.{MoreSets, InputDecl, ActionDecl, LevelDecl, ProdDecl, ExprPhrase, OfVersion}
 use Rattle.pbs_text.specs.Trees.{declared, input_of, inputs_of, names_of, sets_of, expr_tree, word_at}
 use Rattle.pbs_text.specs.Holes.{Front}
 use Rattle.pbs_text.specs.places.Places.{InputHole, FirstInput, FirstName, LevelFront, InDecls, WantsInput}
 use Rattle.pbs_text.specs.places.Places.{AfterInputName, AfterInput, WantsName, AfterLevel, InLevel, AfterSetName}
-use Rattle.pbs_text.specs.places.Places.{AfterProd}
-use Rattle.pbs_text.specs.places.Steps.{with_next, level_front}
+use Rattle.pbs_text.specs.places.Places.{AfterProd, AfterProdName, AfterMain, Whole}
+use Rattle.pbs_text.specs.places.Steps.{with_next, level_front, whole_spec}
 use Rattle.pbs_text.specs.places.Reading.{read}
 
 -- a bit
@@ -131,6 +132,25 @@ pub record ReadsLevel (bytes : List ℕ) (end : ℕ) (old : List Token) (x : Lev
       → read end (AfterLevel f at) old ≡ read end
       (InDecls (with_next f (LevelDecl at name_at equals_at value bit_at open_at sets close_at))) new
   pub shorter : length new < length old
+
+-- '=' expr ';' behind the name of a production or 'main'
+pub record ReadsRightSide (two : Bool) (bytes : List ℕ) (end : ℕ) (old : List Token) (x : Expr)
+    (new : List Token) : Type 0 where
+  pub equals_at : Span
+  pub phrase : ExprPhrase two
+  pub end_at : Span
+  pub value_is : x ≡ expr_tree bytes phrase
+  pub after_name : (f : Front two) (at name_at : Span) → read end (AfterProdName f at name_at) old ≡ read end
+      (InDecls (with_next f (ProdDecl at name_at equals_at phrase end_at))) new
+  pub after_main : (f : Front two) (at : Span) → read end (AfterMain f at) old ≡ read end
+      (Whole (OfVersion two (whole_spec f at equals_at phrase end_at))) new
+  pub shorter : length new < length old
+
+abbrev pub StopsRightSide : Bool → ℕ → List Token → ReadSpec → Type 0
+StopsRightSide two end old Memory = Unit {0}
+StopsRightSide two end old (Refused r) =
+    ((f : Front two) (at name_at : Span) → read end (AfterProdName f at name_at) old ≡ Err r) ×
+    ((f : Front two) (at : Span) → read end (AfterMain f at) old ≡ Err r)
 
 -- name '=' expr ';' behind 'prod'
 pub record ReadsProd (two : Bool) (bytes : List ℕ) (end : ℕ) (old : List Token) (x : Prod)

@@ -1,7 +1,7 @@
 // Declarations.
 ghost use Rattle.std.specs.Prelude.{ℕ, Bool, ◌≡◌, ◌≤◌, ◌<◌, ◌+◌, ◌∷◌, ◌++◌, [], length, true, IfOk, IfErr, MatchOption};
 ghost use Rattle.std.specs.Prelude.{option_map};
-ghost use Rattle.pbs_text.specs.Bare.{bare_prod};
+ghost use Rattle.pbs_text.specs.Bare.{bare_expr, bare_prod};
 ghost use Rattle.pbs_text.specs.Grammar.{token};
 ghost use Rattle.pbs_text.specs.places.Steps.{bit_of, width_of};
 ghost use Rattle.pbs_text.specs.Trees.{width_value, declared};
@@ -9,10 +9,10 @@ ghost use Rattle.pbs_descent.specs.Descent.{NoFront, BeginsWith, front_refusal};
 ghost use Rattle.pbs_read.specs.DeclDescent.{TakesBit, ReadsWidth, StopsWidth, ReadsInput, StopsInput};
 ghost use Rattle.pbs_read.specs.DeclDescent.{ReadsInputs, StopsInputs, ReadsNames, StopsNames, ReadsSet};
 ghost use Rattle.pbs_read.specs.DeclDescent.{StopsSet, ReadsSets, StopsSets, ReadsLevelHead, StopsLevel};
-ghost use Rattle.pbs_read.specs.DeclDescent.{ReadsLevel, ReadsProd, StopsProd};
+ghost use Rattle.pbs_read.specs.DeclDescent.{ReadsLevel, ReadsRightSide, StopsRightSide, ReadsProd, StopsProd};
 ghost use Rattle.pbs_text.specs.declared.token.TokenKind.TheVariants.{Name};
 
-use pbs_ast::{Decl, Decls, Level, Prod, Set, Sets};
+use pbs_ast::{Decl, Decls, Expr, Level, Prod, Set, Sets};
 use pbs_base::{Listed, Span};
 use pbs_descent::{Mark, behind, expect, expr, front, second, stop, word};
 use pbs_text::{ReadSpec, Token, TokenKind};
@@ -220,6 +220,23 @@ pub(crate) fn level<'a>(
     ))
 }
 
+/// '=' expr ';' behind the name of a production or 'main'
+pub(crate) fn right_side<'a>(
+    alloc: Global,
+    bytes: &[u8],
+    two: bool,
+    tokens: &'a [Token],
+    end: u32,
+) -> Result<(Expr, &'a [Token]), ReadSpec>
+    ensures ok { IfOk result (λ x. ReadsRightSide two bytes.now end tokens.now (bare_expr x.0) x.1.now) }
+    ensures err { IfErr result (λ e. StopsRightSide two end tokens.now e) }
+{
+    let (_, rest) = expect(tokens, Mark::EqualsMark, end)?;
+    let (body, rest) = expr(alloc, bytes, two, rest, 0, end)?;
+    let (_, rest) = expect(rest, Mark::SemicolonMark, end)?;
+    Ok((body.tree, rest))
+}
+
 /// name '=' expr ';' behind a 'prod'
 pub(crate) fn prod<'a>(
     alloc: Global,
@@ -232,16 +249,7 @@ pub(crate) fn prod<'a>(
     ensures err { IfErr result (λ e. StopsProd two end tokens.now e) }
 {
     let (span, rest) = expect(tokens, Mark::AName, end)?;
-    let (_, rest) = expect(rest, Mark::EqualsMark, end)?;
-    let (body, rest) = expr(alloc, bytes, two, rest, 0, end)?;
-    let (_, rest) = expect(rest, Mark::SemicolonMark, end)?;
+    let (body, rest) = right_side(alloc, bytes, two, rest, end)?;
     let name = word(alloc, bytes, span)?;
-    Ok((
-        Prod {
-            name,
-            span,
-            body: body.tree,
-        },
-        rest,
-    ))
+    Ok((Prod { name, span, body }, rest))
 }

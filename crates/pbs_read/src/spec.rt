@@ -15,10 +15,10 @@ ghost use Rattle.pbs_read.specs.TextDescent.{StopsVersion, TakesDeclWord, ReadsD
 ghost use Rattle.pbs_read.specs.TextDescent.{StopsDecls, ReadsMain, StopsMain, ReadsText, StopsText};
 ghost use Rattle.pbs_text.specs.Answers.{StandsFor, IsRefusedBy, Answers, Refuses, IsThe};
 
-use crate::decls::{inputs, level, names, prod};
+use crate::decls::{inputs, level, names, prod, right_side};
 use pbs_ast::{Decls, Expr, Levels, Prods, Spec};
 use pbs_base::{Listed, Refusal, Span, Subject};
-use pbs_descent::{Mark, expect, expr, front, stop};
+use pbs_descent::{Mark, expect, front, stop};
 use pbs_lex::tokens_of;
 use pbs_text::{ReadSpec, Token, TokenKind};
 use std::alloc::Global;
@@ -169,11 +169,9 @@ fn main_expr(
     ensures err { IfErr result (λ e. StopsMain two end tokens.now e) }
 {
     let (_, rest) = expect(tokens, Mark::Main, end)?;
-    let (_, rest) = expect(rest, Mark::EqualsMark, end)?;
-    let (body, rest) = expr(alloc, bytes, two, rest, 0, end)?;
-    let (_, rest) = expect(rest, Mark::SemicolonMark, end)?;
+    let (body, rest) = right_side(alloc, bytes, two, rest, end)?;
     if rest.is_empty() {
-        Ok(body.tree)
+        Ok(body)
     } else {
         Err(stop(rest, end))
     }

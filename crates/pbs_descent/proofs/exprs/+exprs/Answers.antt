@@ -5,6 +5,8 @@ use Rattle.pbs_text.specs.declared.token.TokenKind.TheVariants.{Comma, Bar}
 use Rattle.pbs_descent.proofs.TermExits.{begins, ok_then, err_then}
 use Rattle.pbs_descent.proofs.ExprExits.{group_empty, group_full, group_stops, group_unclosed, prim_use, prim_group}
 use Rattle.pbs_descent.proofs.ExprExits.{prim_group_stops, hold_read, hold_stops, scope_read, scope_stops, item_plain}
+use Rattle.pbs_descent.proofs.ExprExits.{scope_body_stops, trap_read, trap_no_abort, trap_stops, trap_no_then}
+use Rattle.pbs_descent.proofs.ExprExits.{trap_after_stops}
 use Rattle.pbs_descent.proofs.ExprExits.{item_repeated, item_counted, item_uncounted, seq_one, seq_first, seq_more}
 use Rattle.pbs_descent.proofs.ExprExits.{seq_whole, expr_one, expr_first, expr_more, expr_whole}
 use Rattle.pbs_descent.proofs.exprs.+exprs.Goals as goal
@@ -50,11 +52,6 @@ pub item-returns-in_default-operator-clause-ok : goal.item-returns-in_default-op
 item-returns-in_default-operator-clause-ok t c = item_plain _ _ _ _ _ _ _ _ c.in_default.ensures.none
     c.in_default-operator.ensures c.in_ok-inner.ensures.ok
 
-pub item-returns-clause-ok : goal.item-returns-clause-ok
-item-returns-clause-ok t c =
-    item_repeated _ _ _ _ _ _ _ _ _ _ _ c.in-Some-operator.op c.in-Some-operator.at c.joined-extent.ensures
-    c.in_ok-tree.ensures.value c.in-Some-operator.ensures c.in_ok-inner.ensures.ok
-
 pub prim-returns-in-OpenRound-clause-ok : goal.prim-returns-in-OpenRound-clause-ok
 prim-returns-in-OpenRound-clause-ok t c =
     ok_then c.group.result c.group.ensures.ok
@@ -66,25 +63,6 @@ prim-returns-in-OpenRound-clause-err t c =
     err_then c.group.result c.group.ensures.err
     (λ e r. prim_group_stops c.args.two c.args.end c.args.depth c.args.tokens.now c.in-Some.rest.now c.in-Some.first
     e c.in-Some.ensures c.in-OpenRound.is r)
-
-pub scope-returns-in_err-rest-2-clause-err : goal.scope-returns-in_err-rest-2-clause-err
-scope-returns-in_err-rest-2-clause-err t c =
-    let p = err_from_is_err_and c.from_residual-in_err-rest-2.result c.from_residual-in_err-rest-2.ensures.1 in
-    rw (p.1, p.2)
-    (scope_stops c.args.two c.args.bytes.now c.args.end c.args.depth c.args.at c.in_ok-rest.field-0-0 c.args.rest.now
-    c.in_ok-body.rest.now c.in_ok-rest.rest.now c.in_ok-trap.rest.now
-    (bare_expr c.in_ok-body.body.tree) (bare_expr c.in_ok-trap.trap.tree) c.in_ok-body.body.extent
-    c.in_ok-trap.trap.extent c.in_err-rest-2.field-0.0
-    c.in_ok-body.ensures.ok c.in_ok-rest.ensures.ok c.in_ok-trap.ensures.ok c.in_err-rest-2.ensures.err)
-
-pub scope-returns-clause-ok : goal.scope-returns-clause-ok
-scope-returns-clause-ok t c =
-    scope_read c.args.two c.args.bytes.now c.args.end c.args.depth c.args.at c.in_ok-rest.field-0-0
-    c.in_ok-rest-2.field-0-0 _ _ _ _ _ _ _ (bare_expr c.in_ok-body.body.tree) (bare_expr c.in_ok-trap.trap.tree)
-    (bare_expr c.in_ok-after.after.tree) _
-    c.in_ok-body.body.extent c.in_ok-trap.trap.extent c.in_ok-after.after.extent
-    c.in_ok-body.ensures.ok c.in_ok-rest.ensures.ok c.in_ok-trap.ensures.ok c.in_ok-rest-2.ensures.ok
-    c.in_ok-after.ensures.ok c.joined-extent.ensures c.in_ok-tree.ensures.value
 
 pub seq-returns-in_default-clause-ok : goal.seq-returns-in_default-clause-ok
 seq-returns-in_default-clause-ok t c = seq_one _ _ _ _ _ _ _ _ c.in_ok-first.ensures.ok
@@ -141,3 +119,69 @@ item-returns-in_err-copies-clause-err t c =
     c.in-Some.rest.now (bare_expr c.in_ok-inner.inner.tree) c.in_ok-inner.inner.extent
     c.in-Some.field-0-0 c.in_err-copies.field-0.0 c.in-Some.ensures.version c.in-Some.ensures.taken
     c.in_err-copies.ensures.err c.in_ok-inner.ensures.ok)
+
+pub item-returns-clause-ok : goal.item-returns-clause-ok
+item-returns-clause-ok t c =
+    item_repeated _ _ _ _ _ _ _ _ _ c.in_ok-inner.inner.extent _ c.in-Some-operator.op c.in-Some-operator.at
+    c.in_ok-repeated.ensures.value c.in-Some-operator.ensures c.in_ok-inner.ensures.ok
+
+pub trap_and_after-returns-in_err-rest-clause-err : goal.trap_and_after-returns-in_err-rest-clause-err
+trap_and_after-returns-in_err-rest-clause-err t c =
+    let p = err_from_is_err_and c.from_residual.result c.from_residual.ensures.1 in
+    rw (p.1, p.2)
+    (trap_no_abort c.args.two c.args.end c.args.depth c.args.tokens.now c.in_err-rest.field-0.0
+    c.in_err-rest.ensures.err)
+
+pub trap_and_after-returns-in_err-trap-clause-err : goal.trap_and_after-returns-in_err-trap-clause-err
+trap_and_after-returns-in_err-trap-clause-err t c =
+    let p = err_from_is_err_and c.from_residual-in_err-trap.result c.from_residual-in_err-trap.ensures.1 in
+    rw (p.1, p.2)
+    (trap_stops c.args.two c.args.end c.args.depth c.in_ok-rest.field-0-0 c.args.tokens.now c.in_ok-rest.rest.now
+    c.in_err-trap.field-0.0 c.in_ok-rest.ensures.ok c.in_err-trap.ensures.err)
+
+pub trap_and_after-returns-in_err-rest-2-clause-err : goal.trap_and_after-returns-in_err-rest-2-clause-err
+trap_and_after-returns-in_err-rest-2-clause-err t c =
+    let p = err_from_is_err_and c.from_residual-in_err-rest-2.result c.from_residual-in_err-rest-2.ensures.1 in
+    rw (p.1, p.2)
+    (trap_no_then c.args.two c.args.bytes.now c.args.end c.args.depth c.in_ok-rest.field-0-0 c.args.tokens.now
+    c.in_ok-rest.rest.now c.in_ok-trap.rest.now (bare_expr c.in_ok-trap.trap.tree) c.in_ok-trap.trap.extent
+    c.in_err-rest-2.field-0.0 c.in_ok-rest.ensures.ok c.in_ok-trap.ensures.ok c.in_err-rest-2.ensures.err)
+
+pub trap_and_after-returns-in_err-after-clause-err : goal.trap_and_after-returns-in_err-after-clause-err
+trap_and_after-returns-in_err-after-clause-err t c =
+    let p = err_from_is_err_and c.from_residual-in_err-after.result c.from_residual-in_err-after.ensures.1 in
+    rw (p.1, p.2)
+    (trap_after_stops c.args.two c.args.bytes.now c.args.end c.args.depth c.in_ok-rest.field-0-0
+    c.in_ok-rest-2.field-0-0 c.args.tokens.now c.in_ok-rest.rest.now c.in_ok-trap.rest.now c.in_ok-rest-2.rest.now
+    (bare_expr c.in_ok-trap.trap.tree) c.in_ok-trap.trap.extent c.in_err-after.field-0.0 c.in_ok-rest.ensures.ok
+    c.in_ok-trap.ensures.ok c.in_ok-rest-2.ensures.ok c.in_err-after.ensures.err)
+
+pub trap_and_after-returns-clause-ok : goal.trap_and_after-returns-clause-ok
+trap_and_after-returns-clause-ok t c =
+    trap_read c.args.two c.args.bytes.now c.args.end c.args.depth c.in_ok-rest.field-0-0 c.in_ok-rest-2.field-0-0
+    c.args.tokens.now c.in_ok-rest.rest.now c.in_ok-trap.rest.now c.in_ok-rest-2.rest.now c.in_ok-after.rest.now
+    (bare_expr c.in_ok-trap.trap.tree) (bare_expr c.in_ok-after.after.tree) c.in_ok-trap.trap.extent
+    c.in_ok-after.after.extent c.in_ok-rest.ensures.ok c.in_ok-trap.ensures.ok c.in_ok-rest-2.ensures.ok
+    c.in_ok-after.ensures.ok
+
+pub scope-returns-in_err-body-clause-err : goal.scope-returns-in_err-body-clause-err
+scope-returns-in_err-body-clause-err t c =
+    let p = err_from_is_err_and c.from_residual.result c.from_residual.ensures.1 in
+    rw (p.1, p.2)
+    (scope_body_stops c.args.two c.args.end c.args.depth c.args.at c.args.rest.now c.in_err-body.field-0.0
+    c.in_err-body.ensures.err)
+
+pub scope-returns-in_err-trap-clause-err : goal.scope-returns-in_err-trap-clause-err
+scope-returns-in_err-trap-clause-err t c =
+    let p = err_from_is_err_and c.from_residual-in_err-trap.result c.from_residual-in_err-trap.ensures.1 in
+    rw (p.1, p.2)
+    (scope_stops c.args.two c.args.bytes.now c.args.end c.args.depth c.args.at c.args.rest.now c.in_ok-body.rest.now
+    (bare_expr c.in_ok-body.body.tree) c.in_ok-body.body.extent c.in_err-trap.field-0.0 c.in_ok-body.ensures.ok
+    c.in_err-trap.ensures.err)
+
+pub scope-returns-clause-ok : goal.scope-returns-clause-ok
+scope-returns-clause-ok t c =
+    scope_read c.args.two c.args.bytes.now c.args.end c.args.depth c.args.at _ c.args.rest.now c.in_ok-body.rest.now
+    c.in_ok-trap.rest.now (bare_expr c.in_ok-body.body.tree) (bare_expr c.in_ok-trap.trap.tree)
+    (bare_expr c.in_ok-trap.after.tree) _ c.in_ok-body.body.extent c.in_ok-trap.after.extent
+    c.in_ok-body.ensures.ok c.in_ok-trap.ensures.ok c.in_ok-scoped.ensures.value
