@@ -6,7 +6,7 @@ ghost use Rattle.vlog_text.specs.Raw.{IsRaw};
 ghost use Rattle.vlog_text.specs.Orders.{is_among};
 ghost use Rattle.vlog_text.specs.Words.{target_name};
 ghost use Rattle.vlog_text.specs.Standing.{resolved, the_order};
-ghost use Rattle.vlog_text.specs.Refusing.{first_broken};
+ghost use Rattle.vlog_text.specs.Refusing.{first_broken, earliest, refusals, rule_4, rule_5, rule_6, rule_7};
 ghost use Rattle.net_order.specs.Queues.{marked};
 ghost use Rattle.net_order.specs.Names.{IsFirsts, KnowsKinds};
 ghost use Rattle.net_order.specs.Ordered.{or_next};
@@ -79,6 +79,66 @@ fn number_names(
     })
 }
 
+/// What names stand for, once rules 4 and 5 were looked at.
+#[derive(Drop)]
+struct Named {
+    numbers: Numbers,
+    regs: Firsts,
+    by_name: Option<Refusal>,
+    by_driver: Option<Refusal>,
+}
+
+// Rules 4 and 5, and what names stand for.
+fn name_all(alloc: Global, raw: &RawNetlist) -> Result<Named, Memory>
+    requires { length raw.now.gates < 4294967295 }
+    ensures numbers { IfOk result (λ n. AreNumbers raw.now n.numbers) }
+    ensures regs { IfOk result (λ n. IsFirsts (map (λ (r : RegItem). Some r.target) raw.now.regs) n.regs) }
+    ensures by_name { IfOk result (λ n. n.by_name ≡ earliest None (refusals 4 (rule_4 raw.now))) }
+    ensures by_driver { IfOk result (λ n. n.by_driver ≡ earliest None (refusals 5 (rule_5 raw.now))) }
+{
+    let naming = check_names(alloc, raw)?;
+    let driving = check_drivers(alloc, raw, &naming.kinds)?;
+    let numbers = number_names(alloc, raw, naming.kinds, driving.gates)?;
+    Ok(Named {
+        numbers,
+        regs: driving.regs,
+        by_name: naming.found,
+        by_driver: driving.found,
+    })
+}
+
+/// The gates by their places in the text and their order, once rules 6 and 7 were looked at.
+#[derive(Drop)]
+struct Ordered {
+    gates: Gates,
+    order: Vec<usize>,
+    late: Option<Refusal>,
+    clock: Option<Refusal>,
+}
+
+// Rules 6 and 7, and the order of the gates.
+fn order_all(alloc: Global, raw: &RawNetlist, numbers: &Numbers) -> Result<Ordered, Memory>
+    requires raw { IsRaw raw.now }
+    requires numbers { AreNumbers raw.now numbers.now }
+    ensures gates { IfOk result (λ o.
+        o.gates ≡ map (λ (g : GateItem). capped_gate (resolved raw.now g)) raw.now.gates) }
+    ensures order { IfOk result (λ o. o.order.items ≡ the_order raw.now) }
+    ensures late { IfOk result (λ o. o.late ≡ earliest None (refusals 6 (rule_6 raw.now))) }
+    ensures clock { IfOk result (λ o. o.clock ≡ earliest None (refusals 7 (rule_7 raw.now))) }
+{
+    let clock = check_clock(alloc, raw, &numbers.kinds)?;
+    let gates = numbers.gates(alloc, raw.gates.as_slice())?;
+    let order = order_text(alloc, raw, gates.as_slice())?;
+    let taken = mark_taken(alloc, gates.len(), &order)?;
+    let late = check_taken(raw.gates.as_slice(), &taken);
+    Ok(Ordered {
+        gates,
+        order,
+        late,
+        clock,
+    })
+}
+
 /// Rules 4 to 8, and the order of the gates.
 pub fn check(alloc: Global, raw: &RawNetlist) -> Result<Checked, Memory>
     requires { IsRaw raw.now }
@@ -89,22 +149,17 @@ pub fn check(alloc: Global, raw: &RawNetlist) -> Result<Checked, Memory>
     ensures order { IfOk result (λ c. c.order.items ≡ the_order raw.now) }
     ensures found { IfOk result (λ c. c.found ≡ first_broken raw.now) }
 {
-    let naming = check_names(alloc, raw)?;
-    let driving = check_drivers(alloc, raw, &naming.kinds)?;
-    let (by_name, by_driver) = (naming.found, driving.found);
-    let numbers = number_names(alloc, raw, naming.kinds, driving.gates)?;
-    let gates = numbers.gates(alloc, raw.gates.as_slice())?;
-    let order = order_text(alloc, raw, gates.as_slice())?;
-    let taken = mark_taken(alloc, gates.len(), &order)?;
-    let late = check_taken(raw.gates.as_slice(), &taken);
-    let clock = check_clock(alloc, raw, &numbers.kinds)?;
+    let named = name_all(alloc, raw)?;
+    let ordered = order_all(alloc, raw, &named.numbers)?;
+    let (by_name, by_driver) = (named.by_name, named.by_driver);
+    let (late, clock) = (ordered.late, ordered.clock);
     let counts = check_counts(raw);
     let found = first_of(by_name, by_driver, late, clock, counts);
     Ok(Checked {
-        numbers,
-        regs: driving.regs,
-        gates,
-        order,
+        numbers: named.numbers,
+        regs: named.regs,
+        gates: ordered.gates,
+        order: ordered.order,
         found,
     })
 }

@@ -40,11 +40,7 @@ fn first_unsettled(pins: &[Wire], start: usize, taken: &[bool]) -> Option<Unsett
 pub(crate) fn none_taken(alloc: Global, count: usize) -> Result<Vec<bool>, AllocError>
     ensures { IfOk result (λ bits. bits.items ≡ replicate count false) }
 {
-    let mut bits = Vec::new(alloc);
-    for _ in 0..count {
-        bits.push(false)?;
-    }
-    Ok(bits)
+    vec![in alloc; false; count]
 }
 
 // The waiter's gate goes among the ready ones, or waits for the first pin that isn't settled.

@@ -28,11 +28,7 @@ pub fn places(alloc: Global, count: usize, order: &[usize]) -> Result<Vec<u32>, 
 fn zeros(alloc: Global, count: usize) -> Result<Vec<u32>, Memory>
     ensures { IfOk result (λ zeros. zeros.items ≡ replicate count 0) }
 {
-    let mut zeros = Vec::new(alloc);
-    for _ in 0..count {
-        zeros.push(0)?;
-    }
-    Ok(zeros)
+    Ok(vec![in alloc; 0; count]?)
 }
 
 fn renumber(wire: Wire, places: &[u32]) -> Wire
