@@ -3,6 +3,7 @@ pub mod Growing
 pub mod Joins
 pub mod Limits
 pub mod Main
+pub mod Meaning
 pub mod PartForms
 pub mod PartRules
 pub mod PartWords

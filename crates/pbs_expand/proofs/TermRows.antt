@@ -31,11 +31,11 @@ row_list inputs items = row_items inputs _ (hidden-the_row-SpecTerm-0 items)
 abbrev pub joint : Connective → List Term → Term
 joint by ts = joined (length ts) by ts
 
-written_all : (inputs : List Decl) (items : List SpecTerm)
+pub written_all : (inputs : List Decl) (items : List SpecTerm)
     → written inputs (All items) ≡ joint AndOf (map (written inputs) items)
 written_all inputs items = ap (joint AndOf) (row_list inputs items)
 
-written_any : (inputs : List Decl) (items : List SpecTerm)
+pub written_any : (inputs : List Decl) (items : List SpecTerm)
     → written inputs (Any items) ≡ joint OrOf (map (written inputs) items)
 written_any inputs items = ap (joint OrOf) (row_list inputs items)
 
