@@ -28,11 +28,20 @@ fn expanded(alloc: Global, text: &[u8]) -> Option<Main> {
     }
 }
 
+// How many follow edges the text's tree has, where no scope breaks the overlap rule.
+fn accepted_edges(alloc: Global, text: &[u8]) -> Option<usize> {
+    let main = expanded(alloc, text)?;
+    match edges(alloc, &main) {
+        Ok(edges) => match check_overlap(alloc, &main, &edges) {
+            Ok(_) => Some(edges.follows.len()),
+            Err(_) => None,
+        },
+        Err(_) => None,
+    }
+}
+
 #[test]
 fn most_edges(rt: HostRuntime) -> Result<(), Fail> {
-    let main = expanded(rt.alloc(), MOST_EDGES).ok_or("no tree")?;
-    let edges = edges(rt.alloc(), &main).ok().ok_or("no edges")?;
-    assert_eq!(rt; edges.follows.len(), 16_384);
-    assert!(rt; check_overlap(rt.alloc(), &main, &edges).is_ok());
+    assert_eq!(rt; accepted_edges(rt.alloc(), MOST_EDGES), Some(16_384));
     Ok(())
 }

@@ -1,5 +1,5 @@
 use Rattle.pbs_check.specs.Checked.{IsUnbroken, By9, By10}
-use Rattle.pbs_tests.proofs.overlap.expanded.Goals as goal
+use Rattle.pbs_overlap_tests.proofs.limits.expanded.Goals as goal
 
 pub expand-requires : goal.expand-requires
 expand-requires c =
