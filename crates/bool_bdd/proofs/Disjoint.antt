@@ -10,7 +10,7 @@ use Rattle.bool_bdd.specs.declared.node.Branch.{Branch}
 use Rattle.bool_bdd.specs.declared.node.Pair.{Pair}
 use Rattle.bool_bdd.specs.Members.{pair_eq}
 use Rattle.bool_bdd.specs.Diagrams.{node_holds, AreDisjoint, IsDiagram}
-use Rattle.bool_bdd.specs.Pairs.{halves_of, pair_first, settled_by, AllDisjoint, IsPair}
+use Rattle.bool_bdd.specs.inner.Pairs.{halves_of, pair_first, settled_by, AllDisjoint, IsPair}
 use Rattle.bool_bdd.proofs.Alike.{same_pair}
 use Rattle.bool_bdd.proofs.Meaning.{holds_leaf, holds_alike, side_holds}
 use Rattle.bool_bdd.proofs.Vectors.{with_bit, bit_here, bits_after}

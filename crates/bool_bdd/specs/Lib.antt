@@ -1,4 +1,4 @@
 pub mod Diagrams
 pub mod Choices
-pub mod Pairs
+pub mod inner
 pub mod Members

@@ -4,7 +4,7 @@ ghost use Rattle.std.specs.HashSet.{contains};
 ghost use Rattle.bool_bdd.specs.declared.node.Pair.{Pair};
 ghost use Rattle.bool_bdd.specs.Diagrams.{AreDisjoint, IsDiagram, IsNode};
 ghost use Rattle.bool_bdd.specs.Members.{pair_eq};
-ghost use Rattle.bool_bdd.specs.Pairs.{halves_of, pair_first, settled_by, AllDisjoint, IsPair};
+ghost use Rattle.bool_bdd.specs.inner.Pairs.{halves_of, pair_first, settled_by, AllDisjoint, IsPair};
 
 use crate::node::{Node, Pair};
 use crate::store::Store;

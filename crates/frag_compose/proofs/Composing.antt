@@ -11,8 +11,8 @@ use Rattle.net_core.specs.declared.gate.Wire.TheVariants.{Const, Reset, Input, R
 use Rattle.net_core.specs.Rows.{value}
 use Rattle.net_core.specs.Circuits.{Circuit, IsThere, Exists, wire_at}
 use Rattle.net_core.specs.Building.{Extends, HasAll, input_pin, input_pins}
-use Rattle.frag_compose.specs.Fits.{TreeFits}
-use Rattle.frag_compose.specs.Gains.{ReachesAll, with_registers}
+use Rattle.frag_compose.specs.inner.Fits.{TreeFits}
+use Rattle.frag_compose.specs.inner.Gains.{ReachesAll, with_registers}
 use Rattle.frag_compose.specs.Composes.{Composes}
 use Rattle.frag_compose.proofs.Leaves.{place_leaf, action_leaf, nodes_some}
 

@@ -8,8 +8,8 @@ use Rattle.pbs_ast.specs.Trees.{nullable, is_place, is_action}
 use Rattle.pbs_ast.specs.Sound.{node_count, place_count, places_from, inputs_below, actions_below}
 use Rattle.pbs_machine.specs.Rows.{ends, stays, started, right_start, body_start, main_starts}
 use Rattle.net_core.specs.Rows.{Row}
-use Rattle.frag_compose.specs.Fits.{TreeFits, is_leaf}
-use Rattle.frag_compose.specs.Gains.{leaf_reached}
+use Rattle.frag_compose.specs.inner.Fits.{TreeFits, is_leaf}
+use Rattle.frag_compose.specs.inner.Gains.{leaf_reached}
 
 -- a tree whose places are numbered from `low` on fits where there is room for them
 pub tree_fits : (e : Tree) (i n m low : ℕ) → IsTrue (inputs_below i e) → IsTrue (places_from e low)

@@ -5,7 +5,7 @@ use Rattle.std.specs.Prelude.{slice_set, replicate}
 use Rattle.net_core.specs.declared.gate.Wire.{Wire}
 use Rattle.net_core.specs.Circuits.{Circuit}
 use Rattle.net_core.specs.Building.{with_data}
-use Rattle.frag_compose.specs.Gains.{with_registers}
+use Rattle.frag_compose.specs.inner.Gains.{with_registers}
 
 pub replicate_end : {X : Type 0} (n : ℕ) (x : X) → replicate n x ++ x ∷ [] ≡ replicate (suc n) x
 replicate_end zero x = refl

@@ -6,7 +6,7 @@ use Rattle.net_core.specs.Circuits.{Circuit}
 use Rattle.net_core.specs.Building.{Extends, Means}
 use Rattle.pbs_machine.specs.Rows.{right_start, body_start}
 use Rattle.frag_scopes.specs.Aborts.{ends_after_abort, stays_after_abort}
-use Rattle.frag_compose.specs.Plans.{IsInner, Rises, PlanFits, Signals, IsThen, IsEither, IsAgain, IsWatch}
+use Rattle.frag_compose.specs.inner.Plans.{IsInner, Rises, PlanFits, Signals, IsThen, IsEither, IsAgain, IsWatch}
 use Rattle.frag_compose.specs.declared.nodes.Risen.{Risen}
 use Rattle.frag_compose.specs.declared.plan.Plan.{Plan}
 use Rattle.frag_compose.specs.declared.plan.Plan.TheVariants.{Nothing, Leaf, Then', Either', Again', Watch'}

@@ -5,9 +5,9 @@ ghost use Rattle.pbs_ast.specs.Trees.{has_no_scope, tree_of};
 ghost use Rattle.pbs_ast.specs.Sound.{actions_below, inputs_below, node_count, place_count, tree_input_leaves};
 ghost use Rattle.net_core.specs.Circuits.{Circuit};
 ghost use Rattle.net_core.specs.Building.{Extends, HasAll, Keeps};
-ghost use Rattle.frag_compose.specs.Fits.{TreeFits};
+ghost use Rattle.frag_compose.specs.inner.Fits.{TreeFits};
 ghost use Rattle.frag_compose.specs.Composes.{Composes, Follows, FollowsAlways, own_code, own_codes};
-ghost use Rattle.frag_compose.specs.Gains.{ReachesAll, with_registers};
+ghost use Rattle.frag_compose.specs.inner.Gains.{ReachesAll, with_registers};
 
 use crate::descend::descend;
 use crate::rise::rise;

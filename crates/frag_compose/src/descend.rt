@@ -3,8 +3,8 @@ ghost use Rattle.std.specs.Prelude.{◌≡◌, ◌*◌, ◌<◌, ◌&&◌, ◌||
 ghost use Rattle.pbs_machine.specs.Rows.{body_start, right_start};
 ghost use Rattle.net_core.specs.Rows.{value};
 ghost use Rattle.net_core.specs.Building.{Extends, HasAll, Means};
-ghost use Rattle.frag_compose.specs.Plans.{IsInner, PlanFits, plan_nodes, plan_reaches};
-ghost use Rattle.frag_compose.specs.Gains.{Gains};
+ghost use Rattle.frag_compose.specs.inner.Plans.{IsInner, PlanFits, plan_nodes, plan_reaches};
+ghost use Rattle.frag_compose.specs.inner.Gains.{Gains};
 
 use crate::plan::Plan;
 use frag_scopes::{abort_down, when};

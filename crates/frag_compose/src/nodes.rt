@@ -4,7 +4,7 @@ ghost use Rattle.pbs_ast.specs.Trees.{has_terminal, nullable, tree_of};
 ghost use Rattle.net_core.specs.Rows.{value};
 ghost use Rattle.net_core.specs.Building.{Extends, Means};
 ghost use Rattle.frag_scopes.specs.Aborts.{ends_after_abort, stays_after_abort};
-ghost use Rattle.frag_compose.specs.Plans.{AreInner, IsAgain, IsEither, IsThen, IsWatch};
+ghost use Rattle.frag_compose.specs.inner.Plans.{AreInner, IsAgain, IsEither, IsThen, IsWatch};
 
 use crate::plan::{Plan, again_plan, either_plan, then_plan, watch_plan};
 use frag_scopes::{Up, abort_up, when};

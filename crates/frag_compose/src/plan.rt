@@ -1,6 +1,6 @@
 // The plan of a tree's gates: what the way down needs, once each node has its wires.
 ghost use Rattle.std.specs.Prelude.{IfOk};
-ghost use Rattle.frag_compose.specs.Plans.{IsAgain, IsEither, IsThen, IsWatch};
+ghost use Rattle.frag_compose.specs.inner.Plans.{IsAgain, IsEither, IsThen, IsWatch};
 
 use frag_scopes::Up;
 use net_core::Wire;

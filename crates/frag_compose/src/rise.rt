@@ -3,8 +3,8 @@ ghost use Rattle.std.specs.Prelude.{◌≡◌, ◌*◌, ◌<◌, ◌^◌, length
 ghost use Rattle.pbs_ast.specs.Trees.{tree_of};
 ghost use Rattle.pbs_ast.specs.Sound.{node_count, tree_input_leaves};
 ghost use Rattle.net_core.specs.Building.{Extends};
-ghost use Rattle.frag_compose.specs.Fits.{TreeFits};
-ghost use Rattle.frag_compose.specs.Plans.{IsInner, RisesTo};
+ghost use Rattle.frag_compose.specs.inner.Fits.{TreeFits};
+ghost use Rattle.frag_compose.specs.inner.Plans.{IsInner, RisesTo};
 
 use crate::nodes::{Risen, choice, lone, scope, sequence, star};
 use crate::plan::Plan;

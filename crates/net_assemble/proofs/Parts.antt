@@ -30,7 +30,7 @@ use Rattle.net_order.specs.Wires.{AreNumbers, capped, capped_gate}
 use Rattle.net_order.proofs.Bridge.{reordered_is}
 use Rattle.net_order.proofs.Standings.{map_position}
 use Rattle.net_order.proofs.Earliest.{unrefused_is}
-use Rattle.net_assemble.specs.Parts.{IsChecked, ArePlaces, output_at}
+use Rattle.net_assemble.specs.inner.Parts.{IsChecked, ArePlaces, output_at}
 use Rattle.net_assemble.proofs.Capping.{capped_pin, uncapped}
 
 -- ---- no port is listed twice

@@ -13,7 +13,7 @@ use Rattle.vlog_text.specs.Standing.{resolved, text_gates, the_order}
 use Rattle.net_order.specs.Moves.{place_from}
 use Rattle.net_order.proofs.Bridge.{order_same}
 use Rattle.net_order.proofs.TextGates.{order_below}
-use Rattle.net_assemble.specs.Parts.{ArePlaces}
+use Rattle.net_assemble.specs.inner.Parts.{ArePlaces}
 
 -- ---- how long the order is
 

@@ -1,2 +1,2 @@
-pub mod Parts
+pub mod inner
 pub mod Ordered

@@ -4,7 +4,7 @@ ghost use Rattle.vlog_text.specs.Raw.{IsRaw};
 ghost use Rattle.vlog_text.specs.Refusing.{first_broken};
 ghost use Rattle.vlog_text.specs.Standing.{net_of};
 ghost use Rattle.net_assemble.specs.Ordered.{Orders};
-ghost use Rattle.net_assemble.specs.Parts.{IsChecked};
+ghost use Rattle.net_assemble.specs.inner.Parts.{IsChecked};
 
 use crate::ports::{input_names, outputs};
 use crate::registers::register_wires;

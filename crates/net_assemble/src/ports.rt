@@ -3,7 +3,7 @@ ghost use Rattle.std.specs.Prelude.{◌≡◌, [], ◌∷◌, ◌++◌, IfOk, On
 ghost use Rattle.vlog_text.specs.declared.raw.RawName.{RawName as Named};
 ghost use Rattle.vlog_text.specs.Words.{repeated};
 ghost use Rattle.net_order.specs.Names.{kinds_in, is_plain};
-ghost use Rattle.net_assemble.specs.Parts.{first_or_zero, output_at};
+ghost use Rattle.net_assemble.specs.inner.Parts.{first_or_zero, output_at};
 
 use crate::places::place_of;
 use net_core::{Output, Outputs};

@@ -2,7 +2,7 @@
 ghost use Rattle.std.specs.Prelude.{◌≡◌, ◌≤◌, [], ◌∷◌, ◌++◌, IfOk, OnOk, map, filter, length, if◌then◌else◌};
 ghost use Rattle.vlog_text.specs.declared.raw.RawDecl.{RawDecl as DeclItem};
 ghost use Rattle.vlog_text.specs.Standing.{is_reg, inputs, registers, register_wire};
-ghost use Rattle.net_assemble.specs.Parts.{IsChecked, ArePlaces};
+ghost use Rattle.net_assemble.specs.inner.Parts.{IsChecked, ArePlaces};
 
 use crate::places::renumber;
 use net_core::{Wire, Wires};

@@ -17,7 +17,7 @@ use Rattle.vlog_text.specs.Standing.{is_input, is_output, is_reg, is_clock, is_r
 use Rattle.vlog_text.specs.Standing.{inputs, outputs}
 use Rattle.vlog_text.specs.Standing.{registers}
 use Rattle.vlog_text.specs.Refusing.{declared}
-use Rattle.net_order.specs.Queues.{Has}
+use Rattle.net_order.specs.inner.Queues.{Has}
 use Rattle.net_order.proofs.Tests.{and_true, and_left, and_right}
 use Rattle.net_order.proofs.NameLists.{same_word, word_is, any_has, has_any, has_filter, filter_has, has_map, map_at}
 use Rattle.net_order.proofs.NameLists.{named_has}

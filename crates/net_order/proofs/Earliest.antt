@@ -10,7 +10,7 @@ use Rattle.vlog_text.specs.Refusing.{is_before, earlier_of, earliest, refusal, r
 use Rattle.vlog_text.specs.Refusing.{rule_5, rule_6, rule_7, rule_8}
 use Rattle.vlog_text.specs.declared.raw.RawName.{RawName}
 use Rattle.net_order.specs.Laws.{IsEarliest}
-use Rattle.net_order.specs.Ordered.{or_next}
+use Rattle.net_order.specs.inner.Ordered.{or_next}
 use Rattle.net_order.proofs.Noting.{earliest_both}
 
 pub before_more : (a r x : Refusal) → is_before x a ≡ true → is_before x r ≡ false → is_before a r ≡ false

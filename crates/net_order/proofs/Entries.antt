@@ -11,7 +11,7 @@ use Rattle.vlog_text.specs.Standing.{drives}
 use Rattle.vlog_text.specs.Refusing.{earliest, refusals}
 use Rattle.net_order.specs.declared.firsts.Firsts.{Firsts}
 use Rattle.net_order.specs.Names.{first_in, or_else, again, when, IsFirsts, Learns}
-use Rattle.net_order.specs.Rows.{one_or_none}
+use Rattle.net_order.specs.inner.Rows.{one_or_none}
 use Rattle.net_order.proofs.Noting.{noted_both}
 
 -- ---- places

@@ -8,7 +8,7 @@ use Rattle.std.proofs.lemmas.List.{take_more}
 use Rattle.std.proofs.lemmas.List.Folds.{list_any-append}
 use Rattle.std.proofs.lemmas.Bool.{ne_eqb, eq-eqb}
 use Rattle.vlog_text.specs.Orders.{is_among}
-use Rattle.net_order.specs.Queues.{marked}
+use Rattle.net_order.specs.inner.Queues.{marked}
 use Rattle.net_order.proofs.Tests.{same_or_apart, or_right}
 
 pub record Marked (count : ℕ) (order : List ℕ) (i : ℕ) (taken : List Bool) : Type 0 where

@@ -11,7 +11,7 @@ use Rattle.std.proofs.lemmas.Map.Keys.{any_passes_from_place}
 use Rattle.std.proofs.lemmas.List.Folds.{list_any-append}
 use Rattle.vlog_text.specs.declared.raw.RawName.{RawName}
 use Rattle.vlog_text.specs.Words.{has_word, is_named, repeated}
-use Rattle.net_order.specs.Queues.{Has}
+use Rattle.net_order.specs.inner.Queues.{Has}
 use Rattle.net_order.proofs.Tests.{true_or_false, differs}
 
 pub same_word : (a b : List ℕ) → bytes_eq a b ≡ true → a ≡ b

@@ -12,7 +12,7 @@ use Rattle.vlog_text.specs.Refusing.{earliest, earlier_of, refusals, refusal}
 use Rattle.net_order.specs.declared.kinds.Kinds.{Kinds}
 use Rattle.net_order.specs.declared.rows.Fault.{Fault}
 use Rattle.net_order.specs.Names.{has_fault, when}
-use Rattle.net_order.specs.Rows.{faulty, one_or_none, named_pin, named_target}
+use Rattle.net_order.specs.inner.Rows.{faulty, one_or_none, named_pin, named_target}
 
 pub earliest_both : (found : Option Refusal) (xs ys : List Refusal)
     → earliest found (xs ++ ys) ≡ earliest (earliest found xs) ys

@@ -13,7 +13,7 @@ use Rattle.vlog_text.specs.Words.{has_word}
 use Rattle.vlog_text.specs.Standing.{drives}
 use Rattle.net_order.specs.declared.firsts.Firsts.{Firsts}
 use Rattle.net_order.specs.Names.{first_in, or_else, IsFirsts, Learns}
-use Rattle.net_order.specs.Rows.{one_or_none}
+use Rattle.net_order.specs.inner.Rows.{one_or_none}
 use Rattle.net_order.proofs.Entries.{position_both, take_named, take_all}
 
 module _ {X : Type 0} (f : X → Option RawName) where

@@ -14,7 +14,7 @@ use Rattle.vlog_text.specs.Orders.{is_among, then_on}
 use Rattle.net_order.specs.Taking.{first_from, order_from, order_of}
 use Rattle.net_order.proofs.Tests.{same_or_apart, or_right}
 use Rattle.net_order.proofs.Steps.{least_first, empty_none}
-use Rattle.net_order.specs.Queues.{marked, IsQueue}
+use Rattle.net_order.specs.inner.Queues.{marked, IsQueue}
 
 pub record Ordered (gates : List netlist.Gate.Gate) (taken : List Bool) (ready : BTreeSet ℕ)
     (waiting : List (List Waiter)) (order : List ℕ) (count : ℕ) : Type 0 where

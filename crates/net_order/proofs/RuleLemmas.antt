@@ -19,7 +19,7 @@ use Rattle.net_order.specs.declared.firsts.Firsts.{Firsts}
 use Rattle.net_order.specs.declared.rows.Fault.{Fault}
 use Rattle.net_order.specs.declared.rows.Fault.TheVariants as fault
 use Rattle.net_order.specs.Names.{has_fault, kinds_of, is_any, first_in, IsFirsts}
-use Rattle.net_order.specs.Rows.{faulty}
+use Rattle.net_order.specs.inner.Rows.{faulty}
 use Rattle.net_order.proofs.Noting.{noted_both, faulty_both}
 use Rattle.net_order.proofs.KindLemmas.{any_is, inner_is, held_is}
 use Rattle.net_order.proofs.Entries.{found_of, all_present, mapped_present}

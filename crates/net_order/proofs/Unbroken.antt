@@ -14,7 +14,7 @@ use Rattle.vlog_text.specs.Standing.{is_plain_input}
 use Rattle.vlog_text.specs.Standing.{inputs, registers, the_order}
 use Rattle.vlog_text.specs.Refusing.{refusals, first_broken, rule_4, rule_5, rule_6, rule_7, rule_8, declared, at_place}
 use Rattle.vlog_text.specs.Refusing.{left_out}
-use Rattle.net_order.specs.Queues.{Has}
+use Rattle.net_order.specs.inner.Queues.{Has}
 use Rattle.net_order.proofs.Tests.{differs, and_true, and_left, and_right, or_left, or_right}
 use Rattle.net_order.proofs.Earliest.{unrefused_is}
 use Rattle.net_order.proofs.NameLists.{same_word, word_is, left_empty, right_empty, any_has, has_any, has_filter}

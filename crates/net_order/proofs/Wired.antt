@@ -32,7 +32,7 @@ use Rattle.vlog_text.specs.Standing.{registers}
 use Rattle.vlog_text.specs.Standing.{number_of, drives, driver, word_wire, pin_wire, resolved, text_gates, the_order}
 use Rattle.vlog_text.specs.Standing.{data_wire, register_wire}
 use Rattle.vlog_text.specs.Refusing.{item_target, target_or, left_out}
-use Rattle.net_order.specs.Queues.{Has}
+use Rattle.net_order.specs.inner.Queues.{Has}
 use Rattle.net_order.proofs.Tests.{true_or_false, differs}
 use Rattle.net_order.proofs.Waking.{some_at}
 use Rattle.net_order.proofs.Bridge.{order_same}

@@ -1,9 +1,6 @@
 pub mod Taking
-pub mod Queues
+pub mod inner
 pub mod Moves
 pub mod Laws
 pub mod Names
-pub mod Rows
-pub mod Checks
 pub mod Wires
-pub mod Ordered

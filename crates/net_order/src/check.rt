@@ -7,9 +7,9 @@ ghost use Rattle.vlog_text.specs.Orders.{is_among};
 ghost use Rattle.vlog_text.specs.Words.{target_name};
 ghost use Rattle.vlog_text.specs.Standing.{resolved, the_order};
 ghost use Rattle.vlog_text.specs.Refusing.{first_broken, earliest, refusals, rule_4, rule_5, rule_6, rule_7};
-ghost use Rattle.net_order.specs.Queues.{marked};
+ghost use Rattle.net_order.specs.inner.Queues.{marked};
 ghost use Rattle.net_order.specs.Names.{IsFirsts, KnowsKinds};
-ghost use Rattle.net_order.specs.Ordered.{or_next};
+ghost use Rattle.net_order.specs.inner.Ordered.{or_next};
 ghost use Rattle.net_order.specs.Wires.{AreNumbers, capped_gate};
 
 use crate::checks::{check_clock, check_counts, check_taken};

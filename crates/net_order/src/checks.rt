@@ -4,9 +4,9 @@ ghost use Rattle.std.specs.Prelude.{length, not, ◌||◌, if◌then◌else◌, 
 ghost use Rattle.vlog_text.specs.declared.raw.RawDecl.{RawDecl as DeclItem};
 ghost use Rattle.vlog_text.specs.Orders.{is_among};
 ghost use Rattle.vlog_text.specs.Refusing.{earliest, refusals, rule_7, rule_8, at_place, left_out, item_target};
-ghost use Rattle.net_order.specs.Queues.{marked};
+ghost use Rattle.net_order.specs.inner.Queues.{marked};
 ghost use Rattle.net_order.specs.Names.{kinds_in, KnowsKinds};
-ghost use Rattle.net_order.specs.Checks.{is_counted};
+ghost use Rattle.net_order.specs.inner.Checks.{is_counted};
 
 use crate::kinds::{KindTable, is_clock, is_reset};
 use crate::note::note_if;

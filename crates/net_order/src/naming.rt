@@ -6,7 +6,7 @@ ghost use Rattle.vlog_text.specs.Words.{repeated, uses};
 ghost use Rattle.vlog_text.specs.Standing.{is_port};
 ghost use Rattle.vlog_text.specs.Refusing.{earliest, refusals, rule_4};
 ghost use Rattle.net_order.specs.Names.{first_in, kinds_in, IsFirsts, KnowsKinds};
-ghost use Rattle.net_order.specs.Rows.{faulty};
+ghost use Rattle.net_order.specs.inner.Rows.{faulty};
 
 use crate::entering::enter_ports;
 use crate::firsts::Firsts;

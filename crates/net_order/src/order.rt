@@ -5,7 +5,8 @@ ghost use Rattle.std.specs.Prelude.{IfNone, slice_get, slice_set};
 ghost use Rattle.net_order.specs.declared.waiting.Waiter.{Waiter as WaiterValue};
 ghost use Rattle.std.specs.BTreeSet.{contains};
 ghost use Rattle.net_order.specs.Taking.{AllNamed, order_of};
-ghost use Rattle.net_order.specs.Queues.{marked, SettledBetween, IsWaiter, IsReady, IsQueue, Popped, without, wakes};
+ghost use Rattle.net_order.specs.inner.Queues.{marked, SettledBetween, IsWaiter, IsReady, IsQueue, Popped, without};
+ghost use Rattle.net_order.specs.inner.Queues.{wakes};
 
 use crate::waiting::{Waiter, Waiting};
 use net_core::{Gate, Wire};

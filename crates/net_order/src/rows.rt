@@ -7,7 +7,7 @@ ghost use Rattle.vlog_text.specs.declared.raw.RawReg.{RawReg as RegItem};
 ghost use Rattle.vlog_text.specs.Words.{pin_name, target_name};
 ghost use Rattle.vlog_text.specs.Refusing.{earliest, refusals};
 ghost use Rattle.net_order.specs.Names.{has_fault, kinds_in};
-ghost use Rattle.net_order.specs.Rows.{named_pin, named_target, faulty};
+ghost use Rattle.net_order.specs.inner.Rows.{named_pin, named_target, faulty};
 
 use crate::kinds::{KindTable, is_clock};
 use crate::note::note_if;

@@ -9,7 +9,7 @@ use Rattle.net_trace.specs.declared.fail.RunFail.{RunFail}
 use Rattle.net_trace.specs.declared.fail.RunFail.TheVariants as fails
 use Rattle.net_trace.specs.Taken.{InHeader, Opened, TakesAtMost, Took, Untouched}
 use Rattle.net_trace.specs.Endings.{RunEnds, net_task}
-use Rattle.net_trace.specs.Steps.{OnlyReads, OpenedEnds, ReadingFailed, TakenOf}
+use Rattle.net_trace.specs.inner.Steps.{OnlyReads, OpenedEnds, ReadingFailed, TakenOf}
 use Rattle.net_trace.proofs.OutcomeLemmas.{nothing_written}
 use Rattle.net_trace.proofs.StandLemmas.{told_rest}
 

@@ -13,7 +13,7 @@ use Rattle.trace_reader.specs.declared.answers.Row.TheVariants as answer
 use Rattle.net_trace.specs.declared.fail.RunFail.{RunFail}
 use Rattle.net_trace.specs.declared.fail.RunFail.TheVariants as fails
 use Rattle.net_trace.specs.declared.report.Report.{Report}
-use Rattle.net_trace.specs.Steps.{Ends, FinishesLater, ReadAll, Refuses, Shown, ShownInPart, after, entry_in}
+use Rattle.net_trace.specs.inner.Steps.{Ends, FinishesLater, ReadAll, Refuses, Shown, ShownInPart, after, entry_in}
 use Rattle.net_trace.proofs.TextLemmas.{end_traced, last_refused, last_traced, not_more}
 use Rattle.net_trace.proofs.OutcomeLemmas.{Runs, cut_at_end, cut_report, read_of, refused_report, whole_report}
 

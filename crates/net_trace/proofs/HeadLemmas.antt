@@ -13,7 +13,7 @@ use Rattle.trace_reader.specs.States.{IsInHeader, ReaderState, ReadsHead, has_ne
 use Rattle.trace_reader.specs.declared.answers.Phase.TheVariants as phase
 use Rattle.trace_reader.specs.declared.answers.Head.TheVariants as head
 use Rattle.trace_reader.proofs.LineLemmas.{first_open, lines_ended}
-use Rattle.net_trace.specs.Steps.{Read, ReadAll}
+use Rattle.net_trace.specs.inner.Steps.{Read, ReadAll}
 use Rattle.net_trace.proofs.TextLemmas.{cut, drop_line, open_append, traced_same}
 use Rattle.net_trace.proofs.StandLemmas.{at_end}
 

@@ -1,5 +1,6 @@
 -- How the run of a text that was opened ends.
-use Rattle.std.proofs.Common.{◌≡◌, ◌≤◌, ◌+◌, ◌-◌, ℕ, drop, take, false, List, [], ◌++◌, length, Option, Some, None, Result}
+use Rattle.std.proofs.Common.{◌≡◌, ◌≤◌, ◌+◌, ◌-◌, ℕ, drop, take, false, List, [], ◌++◌, length, Option, Some, None}
+use Rattle.std.proofs.Common.{Result}
 use Rattle.std.proofs.Common.{Ok, Err, refl, sym, ap, subst, ◌∙◌, arith}
 use Rattle.std.proofs.lemmas.List.{drop-take}
 use Rattle.std.specs.Io.KnownBytes.{IsAtEnd, prepend_known}
@@ -12,7 +13,8 @@ use Rattle.trace_reader.specs.States.{ReaderState, has_newline, rows_from}
 use Rattle.net_trace.specs.declared.fail.RunFail.{RunFail}
 use Rattle.net_trace.specs.declared.fail.RunFail.TheVariants as fails
 use Rattle.net_trace.specs.Taken.{InHeader}
-use Rattle.net_trace.specs.Steps.{Begins, EndsRows, FinishesLater, OpenedEnds, Read, ReadAll, ShownInPart, TakenOf}
+use Rattle.net_trace.specs.inner.Steps.{Begins, EndsRows, FinishesLater, OpenedEnds, Read, ReadAll, ShownInPart}
+use Rattle.net_trace.specs.inner.Steps.{TakenOf}
 use Rattle.net_trace.proofs.TextLemmas.{traced_on}
 use Rattle.net_trace.proofs.OutcomeLemmas.{Runs, cut_report, no_header, nothing_written}
 use Rattle.net_trace.proofs.StandLemmas.{finished, piece_failed, told_rest}

@@ -17,7 +17,7 @@ use Rattle.trace_reader.specs.States.{IsInRow, ReaderState}
 use Rattle.net_trace.specs.Outcomes.{NetGives, OnHeader, OnRows, Outcome, ended, refused, shown_rows}
 use Rattle.net_trace.specs.Endings.{WroteFront, WroteLines}
 use Rattle.net_trace.specs.Taken.{HasRows, InRows, NetRows, Stops}
-use Rattle.net_trace.specs.Steps.{Read, ShownInPart, ShownWhole, after}
+use Rattle.net_trace.specs.inner.Steps.{Read, ShownInPart, ShownWhole, after}
 use Rattle.net_trace.proofs.RunLemmas.{front_run, shown_front}
 use Rattle.net_trace.proofs.BreakLemmas.{broken_behind}
 use Rattle.net_trace.proofs.TextLemmas.{traced_on, traced_same}

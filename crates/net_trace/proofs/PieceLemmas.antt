@@ -15,7 +15,7 @@ use Rattle.trace_reader.specs.declared.answers.Row.TheVariants as answer
 use Rattle.net_trace.specs.declared.fail.RunFail.{RunFail}
 use Rattle.net_trace.specs.declared.fail.RunFail.TheVariants as fails
 use Rattle.net_trace.specs.declared.report.Report.{Report}
-use Rattle.net_trace.specs.Steps.{PieceEnds, Read, Refuses, Shown, ShownInPart, after, entry_in}
+use Rattle.net_trace.specs.inner.Steps.{PieceEnds, Read, Refuses, Shown, ShownInPart, after, entry_in}
 use Rattle.net_trace.proofs.TextLemmas.{NextRead, more_read, not_at_end, refused_read, row_read, traced_on}
 use Rattle.net_trace.proofs.OutcomeLemmas.{cut_report, refused_report}
 

@@ -17,7 +17,7 @@ use Rattle.trace_text.specs.Reports.{is_on, end_line, row_line}
 use Rattle.trace_text.proofs.HeldLemmas.{HeldUpTo, piece_held, piece_unheld, all_flushed}
 use Rattle.trace_text.proofs.RowLemmas.{row_line-same}
 use Rattle.net_trace.specs.Outcomes.{shown_rows}
-use Rattle.net_trace.specs.Steps.{IsNew, Shown, ShownInPart, ShownWhole, ShowsLine}
+use Rattle.net_trace.specs.inner.Steps.{IsNew, Shown, ShownInPart, ShownWhole, ShowsLine}
 use Rattle.net_trace.specs.declared.report.Report.{Report}
 use Rattle.net_trace.proofs.RunLemmas.{front_run, length_more, line_last, names_long, output_shown}
 

@@ -15,8 +15,9 @@ use Rattle.net_trace.specs.declared.fail.RunFail.TheVariants as fails
 use Rattle.net_trace.specs.declared.report.Report.{Report}
 use Rattle.net_trace.specs.declared.rows.Progress.{Progress}
 use Rattle.net_trace.specs.declared.rows.Progress.TheVariants as progress
-use Rattle.net_trace.specs.Steps.{Advances, EndsRows, Finishes, FinishesLater, OnlyReads, PieceEnds, Read, ReadAll}
-use Rattle.net_trace.specs.Steps.{ReadingFailed, RowsEnd, ShownInPart, ShownWhole, Standing, after}
+use Rattle.net_trace.specs.inner.Steps.{Advances, EndsRows, Finishes, FinishesLater, OnlyReads, PieceEnds, Read}
+use Rattle.net_trace.specs.inner.Steps.{ReadAll}
+use Rattle.net_trace.specs.inner.Steps.{ReadingFailed, RowsEnd, ShownInPart, ShownWhole, Standing, after}
 use Rattle.net_trace.proofs.TextLemmas.{all_read, traced_on}
 use Rattle.net_trace.proofs.OutcomeLemmas.{all_shown, cut_report, stops_there}
 

@@ -16,7 +16,7 @@ use Rattle.trace_reader.specs.States.{ReaderState, ReadsRow, has_newline, rows_f
 use Rattle.trace_reader.specs.declared.answers.Row as answers
 use Rattle.trace_reader.specs.declared.answers.Row.TheVariants as answer
 use Rattle.trace_reader.proofs.LineLemmas.{first_open, lines_begun, lines_ended}
-use Rattle.net_trace.specs.Steps.{Read, ReadAll, after, entry_in}
+use Rattle.net_trace.specs.inner.Steps.{Read, ReadAll, after, entry_in}
 
 -- ---- rows
 

@@ -1,4 +1,4 @@
 pub mod Outcomes
 pub mod Taken
 pub mod Endings
-pub mod Steps
+pub mod inner

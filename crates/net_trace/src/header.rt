@@ -2,7 +2,7 @@
 ghost use Rattle.std.specs.Prelude.{◌≡◌, ◌<◌, ◌≤◌, length};
 ghost use Rattle.trace_reader.specs.States.{start};
 ghost use Rattle.trace_reader.specs.declared.answers.Phase.TheVariants as phase;
-ghost use Rattle.net_trace.specs.Steps.{Heads, OnlyReads};
+ghost use Rattle.net_trace.specs.inner.Steps.{Heads, OnlyReads};
 
 use pbs_base::{Refusal, Shelf, read_front};
 use trace_reader::{Head, TraceReader};

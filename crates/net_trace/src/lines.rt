@@ -7,7 +7,7 @@ ghost use Rattle.net_core.specs.Circuits.{Circuit, output_gate};
 ghost use Rattle.net_eval.specs.States.{Steps};
 ghost use Rattle.net_eval.specs.Simulated.{inputs_of, is_reset};
 ghost use Rattle.trace_text.specs.Reports.{is_on, end_line};
-ghost use Rattle.net_trace.specs.Steps.{IsNew, Shown, ShownInPart, ShownWhole, ShowsLine};
+ghost use Rattle.net_trace.specs.inner.Steps.{IsNew, Shown, ShownInPart, ShownWhole, ShowsLine};
 
 use crate::names::port_names;
 use crate::report::Report;

@@ -6,8 +6,9 @@ ghost use Rattle.net_core.specs.Circuits.{Circuit};
 ghost use Rattle.trace_reader.specs.declared.answers.Phase.TheVariants as phase;
 ghost use Rattle.net_trace.specs.declared.fail.RunFail.TheVariants as fails;
 ghost use Rattle.net_trace.specs.declared.rows.Progress.TheVariants as progress;
-ghost use Rattle.net_trace.specs.Steps.{Advances, Ends, EndsRows, FinishesLater, GoesOnReading, OnlyReads, PieceEnds};
-ghost use Rattle.net_trace.specs.Steps.{Read, ReadAll, ReadingFailed, Refuses, Shown, Standing, entry_in};
+ghost use Rattle.net_trace.specs.inner.Steps.{Advances, Ends, EndsRows, FinishesLater, GoesOnReading, OnlyReads};
+ghost use Rattle.net_trace.specs.inner.Steps.{PieceEnds};
+ghost use Rattle.net_trace.specs.inner.Steps.{Read, ReadAll, ReadingFailed, Refuses, Shown, Standing, entry_in};
 
 use crate::fail::RunFail;
 use crate::header::BYTES;

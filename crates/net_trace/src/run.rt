@@ -7,8 +7,8 @@ ghost use Rattle.trace_reader.specs.States.{start};
 ghost use Rattle.trace_reader.specs.declared.answers.Phase.TheVariants as phase;
 ghost use Rattle.net_trace.specs.declared.fail.RunFail.TheVariants as fails;
 ghost use Rattle.net_trace.specs.Endings.{RunEnds, net_task};
-ghost use Rattle.net_trace.specs.Steps.{Begins, EndsRows, FinishesLater, IsNew, OnlyReads, OpenedEnds, ReadAll};
-ghost use Rattle.net_trace.specs.Steps.{ReadingFailed};
+ghost use Rattle.net_trace.specs.inner.Steps.{Begins, EndsRows, FinishesLater, IsNew, OnlyReads, OpenedEnds, ReadAll};
+ghost use Rattle.net_trace.specs.inner.Steps.{ReadingFailed};
 ghost use Rattle.net_trace.specs.Taken.{TakesAtMost};
 
 use crate::fail::RunFail;

@@ -17,7 +17,7 @@ use Rattle.pbs_check.specs.declared.uses.Wanted.TheVariants as wanted
 use Rattle.pbs_check.specs.Recursion as recursion
 use Rattle.pbs_check.specs.Recursion.{IsWithin, Whole, UsesAt, Here, Reaches, Arrived, ByUse}
 use Rattle.pbs_check.specs.Using.{leaves, row_leaves, form_leaves, own_uses, use_of, leaf_use}
-use Rattle.pbs_check.specs.Walking.{all_leaves}
+use Rattle.pbs_check.specs.inner.Walking.{all_leaves}
 use Rattle.pbs_bare.proofs.Rows.{terms_of_row}
 use Rattle.pbs_bare.proofs.Alike.{FormsAlike, Empties, Terminals, Actions, Seqs, Choices, Stars, Pluses, Opts, Holds}
 use Rattle.pbs_bare.proofs.Alike.{Scopes, Names, Repeats, forms_alike, parts_alike, item_alike, body_alike}

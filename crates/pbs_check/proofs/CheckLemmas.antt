@@ -14,12 +14,12 @@ use Rattle.pbs_check.specs.declared.failure.Check.TheVariants as answers
 use Rattle.pbs_check.specs.declared.uses.Tables.{Tables}
 use Rattle.pbs_check.specs.Checked.{IsBroken, By5, By6, By7, By8, By9, By10, By11, By18, By19, IsUnbroken}
 use Rattle.pbs_check.specs.Checked.{IsFailure, Checks}
-use Rattle.pbs_check.specs.Stages.{KeepsBelow, ChecksTo, refuse}
+use Rattle.pbs_check.specs.inner.Stages.{KeepsBelow, ChecksTo, refuse}
 use Rattle.pbs_check.specs.Declaring.{Rule5, Rule11}
 use Rattle.pbs_check.specs.Least.{IsLeast}
 use Rattle.pbs_check.specs.Recursion.{Rule8}
-use Rattle.pbs_check.specs.Facts.{known_of}
-use Rattle.pbs_check.specs.Truth.{IsStuck, IsKnown, Settles}
+use Rattle.pbs_check.specs.inner.Facts.{known_of}
+use Rattle.pbs_check.specs.inner.Truth.{IsStuck, IsKnown, Settles}
 use Rattle.pbs_check.specs.Using.{Rule6, Rule7, Rule18, Rule19}
 use Rattle.pbs_check.proofs.KnownLemmas.{every_known}
 use Rattle.pbs_check.proofs.LeastLemmas.{least_same}

@@ -8,11 +8,11 @@ use Rattle.std.proofs.lemmas.Bool.Decides.{eqb_tells}
 use Rattle.pbs_base.specs.declared.refusal.Span.{Span}
 use Rattle.pbs_check.specs.declared.circles.Circles.{Circles}
 use Rattle.pbs_check.specs.declared.graph.Link.{Link}
-use Rattle.pbs_check.specs.Circles.{AreRound, HasRoot, Rooted, AreRoots, AreCircles, KeepsRoots}
-use Rattle.pbs_check.specs.Links as links
-use Rattle.pbs_check.specs.Links.{HasUse, At, AreTargets, AreUsers, IsClosed, Leads, Step}
-use Rattle.pbs_check.specs.Searching as searching
-use Rattle.pbs_check.specs.Searching.{LeadsBy, Onward, IsMarked, Spreads}
+use Rattle.pbs_check.specs.inner.Circles.{AreRound, HasRoot, Rooted, AreRoots, AreCircles, KeepsRoots}
+use Rattle.pbs_check.specs.inner.Links as links
+use Rattle.pbs_check.specs.inner.Links.{HasUse, At, AreTargets, AreUsers, IsClosed, Leads, Step}
+use Rattle.pbs_check.specs.inner.Searching as searching
+use Rattle.pbs_check.specs.inner.Searching.{LeadsBy, Onward, IsMarked, Spreads}
 use Rattle.pbs_check.proofs.TargetLemmas.{use_target, target_use}
 
 -- ---- ways along uses

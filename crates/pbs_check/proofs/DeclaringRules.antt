@@ -12,8 +12,8 @@ use Rattle.pbs_rules.specs.Naming.{inputs_of, input_names}
 use Rattle.pbs_check.specs.Declaring.{Twice, declared_names, listed, Rule5, DeclaredTwice, ListedTwice, Rule11}
 use Rattle.pbs_check.specs.Declaring.{TooManyInputs, TooManyActions, TooManyLevels}
 use Rattle.pbs_check.specs.Least.{span_le, IsLeast, least_of, least_by}
-use Rattle.pbs_check.specs.Twices.{first_twice}
-use Rattle.pbs_check.specs.Stages.{level_twice, found_twice, over_inputs, found_over}
+use Rattle.pbs_check.specs.inner.Twices.{first_twice}
+use Rattle.pbs_check.specs.inner.Stages.{level_twice, found_twice, over_inputs, found_over}
 use Rattle.pbs_check.proofs.LeastLemmas.{span_refl, least_either, least_same, least_by_is, OneOf, ByItem}
 use Rattle.pbs_check.proofs.TwicePlaces.{first_twice_is}
 

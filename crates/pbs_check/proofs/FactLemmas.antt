@@ -6,8 +6,9 @@ use Rattle.pbs_ast.specs.declared.syntax.Kind.{Seq, Choice, Row_of-Expr, end_of-
 use Rattle.pbs_ast.specs.declared.syntax.Kind.{items_hidden-the_row-Expr-0}
 use Rattle.pbs_ast.specs.declared.syntax.Kind.TheBlock.{hidden-the_row-Expr-0}
 use Rattle.pbs_check.specs.declared.facts.Facts.{Facts}
-use Rattle.pbs_check.specs.Facts.{fact, after, either, choice_of, kind_facts, row_all, row_any, expr_facts, all_facts}
-use Rattle.pbs_check.specs.Facts.{any_facts}
+use Rattle.pbs_check.specs.inner.Facts.{fact, after, either, choice_of, kind_facts, row_all, row_any, expr_facts}
+use Rattle.pbs_check.specs.inner.Facts.{all_facts}
+use Rattle.pbs_check.specs.inner.Facts.{any_facts}
 use Rattle.pbs_check.proofs.WalkLemmas.{item_at}
 
 and_assoc : (a b c : Bool) → ((a && b) && c) ≡ (a && (b && c))

@@ -15,9 +15,10 @@ use Rattle.pbs_rules.specs.Reach.{Itself, InPart, InProd, HasTerminal, HasAction
 use Rattle.pbs_rules.specs.Reach.{MayBeEmpty, EmptyMay, ActionMay, AllMay, SomeMay, NoneMay, StarMay, PlusMay, OptMay}
 use Rattle.pbs_rules.specs.Reach.{HoldMay, ScopeMay, NameMay, UnknownMay, NoCopyMay, CopiesMay}
 use Rattle.pbs_check.specs.declared.facts.Facts.{Facts}
-use Rattle.pbs_check.specs.Facts.{fact, after, either, or_empty, scope_of, choice_of, kind_facts, expr_facts, all_facts}
-use Rattle.pbs_check.specs.Facts.{any_facts}
-use Rattle.pbs_check.specs.Truth.{Decided, IsBusy, FactsAre, Knows}
+use Rattle.pbs_check.specs.inner.Facts.{fact, after, either, or_empty, scope_of, choice_of, kind_facts, expr_facts}
+use Rattle.pbs_check.specs.inner.Facts.{all_facts}
+use Rattle.pbs_check.specs.inner.Facts.{any_facts}
+use Rattle.pbs_check.specs.inner.Truth.{Decided, IsBusy, FactsAre, Knows}
 use Rattle.pbs_check.proofs.LeastLemmas.{first_item, later_item, no_item, item_cases}
 use Rattle.pbs_check.proofs.StandLemmas.{every}
 use Rattle.pbs_check.proofs.FactLemmas.{row_all_is, row_any_is}

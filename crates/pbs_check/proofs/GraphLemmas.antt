@@ -10,8 +10,8 @@ use Rattle.pbs_ast.specs.declared.syntax.Prod.{Prod}
 use Rattle.pbs_ast.specs.declared.syntax.Kind.{Seq, Choice}
 use Rattle.pbs_rules.specs.Forms.{form, form_of}
 use Rattle.pbs_check.specs.declared.graph.Link.{Link}
-use Rattle.pbs_check.specs.Links.{own_links, links_in, links_of, HasNext, By}
-use Rattle.pbs_check.specs.Walking.{below_kind, inside, inside_all}
+use Rattle.pbs_check.specs.inner.Links.{own_links, links_in, links_of, HasNext, By}
+use Rattle.pbs_check.specs.inner.Walking.{below_kind, inside, inside_all}
 use Rattle.pbs_check.proofs.LeastLemmas.{first_item, no_item, item_cases}
 use Rattle.pbs_check.proofs.WalkLemmas.{item_at, below_seq, below_choice}
 

@@ -12,10 +12,10 @@ use Rattle.pbs_rules.specs.Forms.{Form, form, form_of, parts, Stands, OfMain, Of
 use Rattle.pbs_rules.specs.Naming.{index_of, prod_names}
 use Rattle.pbs_check.specs.declared.facts.Facts.{Facts}
 use Rattle.pbs_check.specs.declared.uses.Wanted.TheVariants as wanted
-use Rattle.pbs_check.specs.Facts.{after, either, or_empty, scope_of, choice_of, kind_facts, expr_facts, all_facts}
-use Rattle.pbs_check.specs.Facts.{any_facts}
+use Rattle.pbs_check.specs.inner.Facts.{after, either, or_empty, scope_of, choice_of, kind_facts, expr_facts, all_facts}
+use Rattle.pbs_check.specs.inner.Facts.{any_facts}
 use Rattle.pbs_check.specs.Recursion.{IsWithin, Whole, OfPart, UsesAt, Here, Reaches, Arrived, Rule8, Recursive}
-use Rattle.pbs_check.specs.Truth.{AreFirst, IsStuck, AreKnown}
+use Rattle.pbs_check.specs.inner.Truth.{AreFirst, IsStuck, AreKnown}
 use Rattle.pbs_check.specs.Using.{use_of, own_uses, IsUse, InExpr, Rule6, NotDeclared, Rule7, WrongKind}
 use Rattle.pbs_check.proofs.LeastLemmas.{first_item, later_item, no_item, item_cases}
 use Rattle.pbs_check.proofs.FactLemmas.{row_all_is, row_any_is}

@@ -19,7 +19,7 @@ use Rattle.pbs_check.specs.Declaring.{named, declared_by, declared_inputs, decla
 use Rattle.pbs_check.specs.Declaring.{declared_prods, declared_names, Twice, First, Further, DeclaredTwice}
 use Rattle.pbs_check.specs.Declaring.{Rule5, Rule11, TooManyActions, TooManyLevels}
 use Rattle.pbs_check.specs.Least.{span_le, later_span, IsLeast, least_of}
-use Rattle.pbs_check.specs.Stages.{over_inputs, found_over}
+use Rattle.pbs_check.specs.inner.Stages.{over_inputs, found_over}
 use Rattle.pbs_check.proofs.DeclaringRules.{rule_11_is}
 use Rattle.pbs_check.proofs.LeastLemmas.{first_item, later_item, item_cases}
 

@@ -10,8 +10,8 @@ use Rattle.std.proofs.lemmas.List.Sums.{sum_by-cons}
 use Rattle.pbs_ast.specs.declared.syntax.Prod.{Prod}
 use Rattle.pbs_check.specs.declared.facts.Facts.{Facts}
 use Rattle.pbs_check.specs.declared.facts.Known.{Known}
-use Rattle.pbs_check.specs.Facts.{known_of, expr_facts}
-use Rattle.pbs_check.specs.Truth.{IsStuck, Settles, unknown_count}
+use Rattle.pbs_check.specs.inner.Facts.{known_of, expr_facts}
+use Rattle.pbs_check.specs.inner.Truth.{IsStuck, Settles, unknown_count}
 use Rattle.pbs_check.proofs.LeastLemmas.{no_item, item_cases}
 use Rattle.pbs_check.proofs.UserLemmas.{taken_cases, take_whole}
 

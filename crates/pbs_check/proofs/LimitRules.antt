@@ -18,9 +18,9 @@ use Rattle.pbs_check.specs.declared.uses.Look.TheVariants as looks
 use Rattle.pbs_check.specs.declared.uses.Tables.{Tables}
 use Rattle.pbs_check.specs.Least.{span_le, IsLeast, least_by}
 use Rattle.pbs_check.specs.Using.{Leaf, NameLeaf, EqualLeaf, leaves, form_leaves, Rule18, TooLarge, Rule19, WrongCopies}
-use Rattle.pbs_check.specs.Walking.{bus_width, too_large, leaf_broken, form_broken, own_broken, set_broken}
-use Rattle.pbs_check.specs.Walking.{level_broken}
-use Rattle.pbs_check.specs.Stages.{found_in}
+use Rattle.pbs_check.specs.inner.Walking.{bus_width, too_large, leaf_broken, form_broken, own_broken, set_broken}
+use Rattle.pbs_check.specs.inner.Walking.{level_broken}
+use Rattle.pbs_check.specs.inner.Stages.{found_in}
 use Rattle.pbs_check.proofs.LeastLemmas.{span_refl, least_either, least_same, least_by_is, least_of_none, OneOf, ByItem}
 use Rattle.pbs_check.proofs.StandLemmas.{all_exprs, exprs_stand, stands_listed}
 

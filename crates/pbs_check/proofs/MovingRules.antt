@@ -15,12 +15,13 @@ use Rattle.pbs_rules.specs.Moving.{NoTerminal}
 use Rattle.pbs_check.specs.declared.facts.Facts.{Facts}
 use Rattle.pbs_check.specs.declared.uses.Look.TheVariants as looks
 use Rattle.pbs_check.specs.declared.uses.Tables.{Tables}
-use Rattle.pbs_check.specs.Facts.{known_of, expr_facts}
+use Rattle.pbs_check.specs.inner.Facts.{known_of, expr_facts}
 use Rattle.pbs_check.specs.Least.{span_le, IsLeast, least_by}
 use Rattle.pbs_check.specs.Using.{Leaf, NameLeaf, EqualLeaf, leaves}
-use Rattle.pbs_check.specs.Walking.{if_empty, if_wrong, leaf_broken, form_broken, own_broken, set_broken, level_broken}
-use Rattle.pbs_check.specs.Stages.{found_in}
-use Rattle.pbs_check.specs.Truth.{FactsAre, IsBusy, Decided, IsKnown}
+use Rattle.pbs_check.specs.inner.Walking.{if_empty, if_wrong, leaf_broken, form_broken, own_broken, set_broken}
+use Rattle.pbs_check.specs.inner.Walking.{level_broken}
+use Rattle.pbs_check.specs.inner.Stages.{found_in}
+use Rattle.pbs_check.specs.inner.Truth.{FactsAre, IsBusy, Decided, IsKnown}
 use Rattle.pbs_check.proofs.FactTruth.{either_way}
 use Rattle.pbs_check.proofs.LeastLemmas.{span_refl, least_either, least_by_is, least_by_in, first_item, later_item}
 use Rattle.pbs_check.proofs.LeastLemmas.{OneOf, ByItem}

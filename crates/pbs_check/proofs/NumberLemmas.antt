@@ -17,12 +17,12 @@ use Rattle.pbs_rules.specs.Forms.{Form, form, parts}
 use Rattle.pbs_rules.specs.Naming.{index_of, prod_names, body_of}
 use Rattle.pbs_check.specs.declared.graph.Link.{Link}
 use Rattle.pbs_check.specs.Least.{IsLeast}
-use Rattle.pbs_check.specs.Links as links
-use Rattle.pbs_check.specs.Links.{link, link_to, own_links, links_in, links_of, AreLinks, HasUse, At}
-use Rattle.pbs_check.specs.Links.{IsClosed, Leads, Step, IsRecursive, Round, HasRecursion}
+use Rattle.pbs_check.specs.inner.Links as links
+use Rattle.pbs_check.specs.inner.Links.{link, link_to, own_links, links_in, links_of, AreLinks, HasUse, At}
+use Rattle.pbs_check.specs.inner.Links.{IsClosed, Leads, Step, IsRecursive, Round, HasRecursion}
 use Rattle.pbs_check.specs.Recursion.{IsWithin, Whole, OfPart, UsesAt, Here, Reaches, Arrived, ByUse, Rule8, Recursive}
-use Rattle.pbs_check.specs.Truth.{AreFirst}
-use Rattle.pbs_check.specs.Walking.{below, inside}
+use Rattle.pbs_check.specs.inner.Truth.{AreFirst}
+use Rattle.pbs_check.specs.inner.Walking.{below, inside}
 use Rattle.pbs_check.proofs.LeastLemmas.{first_item, later_item, no_item, item_cases, least_same}
 use Rattle.pbs_check.proofs.NamedLemmas.{absent}
 use Rattle.pbs_check.proofs.StandLemmas.{every, deeper, inner}

@@ -14,9 +14,9 @@ use Rattle.pbs_rules.specs.Naming.{body_of}
 use Rattle.pbs_rules.specs.Forms.{Stands, OfMain, OfProd, OfPart}
 use Rattle.pbs_check.specs.declared.facts.Facts.{Facts}
 use Rattle.pbs_check.specs.declared.uses.Tables.{Tables}
-use Rattle.pbs_check.specs.Facts.{known_of, expr_facts}
+use Rattle.pbs_check.specs.inner.Facts.{known_of, expr_facts}
 use Rattle.pbs_check.specs.Recursion.{UsesAt, Reaches, Arrived, ByUse, Rule8, Recursive}
-use Rattle.pbs_check.specs.Truth.{IsSettled, Settled, AreFirst, Settles, IsKnown, AreKnown}
+use Rattle.pbs_check.specs.inner.Truth.{IsSettled, Settled, AreFirst, Settles, IsKnown, AreKnown}
 use Rattle.pbs_check.specs.declared.named.Named.{Named}
 use Rattle.pbs_check.specs.Declaring.{named, declared_inputs, declared_actions, declared_levels, declared_prods, Twice}
 use Rattle.pbs_check.specs.Declaring.{First, Further, Rule5, DeclaredTwice}

@@ -8,10 +8,10 @@ use Rattle.std.proofs.lemmas.Option.{slice_get_within}
 use Rattle.std.proofs.lemmas.Bool.Decides.{eqb_tells}
 use Rattle.pbs_base.specs.declared.refusal.Span.{Span}
 use Rattle.pbs_check.specs.declared.graph.Link.{Link}
-use Rattle.pbs_check.specs.Circles.{AreRound, HasRoot, Rooted, AreAllRoots, round_span}
+use Rattle.pbs_check.specs.inner.Circles.{AreRound, HasRoot, Rooted, AreAllRoots, round_span}
 use Rattle.pbs_check.specs.Least.{span_le, IsLeast, least_of, least_by}
-use Rattle.pbs_check.specs.Links as links
-use Rattle.pbs_check.specs.Links.{At, Leads, IsRecursive, Round, HasRecursion, HasRecursionTo}
+use Rattle.pbs_check.specs.inner.Links as links
+use Rattle.pbs_check.specs.inner.Links.{At, Leads, IsRecursive, Round, HasRecursion, HasRecursionTo}
 use Rattle.pbs_check.proofs.CircleLemmas.{one_use, round_back, round_on}
 use Rattle.pbs_check.proofs.LeastLemmas.{span_refl, least_either, least_same, least_by_is, OneOf, ByItem}
 use Rattle.pbs_check.proofs.SearchLemmas.{same_mark, mark_same}

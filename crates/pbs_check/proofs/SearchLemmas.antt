@@ -12,8 +12,8 @@ use Rattle.std.proofs.lemmas.List.{get_or-set_same, get_or-set_other}
 use Rattle.std.proofs.lemmas.List.Sums.{sum_by-cons, sum_by-set}
 use Rattle.std.proofs.lemmas.List.Elements.{Contains-append_cases, Contains-append_left, Contains-append_right}
 use Rattle.pbs_check.specs.declared.searching.Search.{Search}
-use Rattle.pbs_check.specs.Links.{HasNext, By}
-use Rattle.pbs_check.specs.Searching.{LeadsBy, Stay, Onward, IsMarked, Spreads, is_other, IsSearch, Grows}
+use Rattle.pbs_check.specs.inner.Links.{HasNext, By}
+use Rattle.pbs_check.specs.inner.Searching.{LeadsBy, Stay, Onward, IsMarked, Spreads, is_other, IsSearch, Grows}
 use Rattle.pbs_check.proofs.LeastLemmas.{first_item, later_item, no_item, item_cases}
 use Rattle.pbs_check.proofs.UserLemmas.{taken_cases, take_whole}
 

@@ -10,9 +10,9 @@ use Rattle.pbs_ast.specs.declared.syntax.Kind as kind
 use Rattle.pbs_rules.specs.Forms as forms
 use Rattle.pbs_rules.specs.Forms.{Form, form, form_of, parts}
 use Rattle.pbs_check.specs.declared.facts.Facts.{Facts}
-use Rattle.pbs_check.specs.Facts.{choice_of, kind_facts, expr_facts, all_facts, any_facts}
+use Rattle.pbs_check.specs.inner.Facts.{choice_of, kind_facts, expr_facts, all_facts, any_facts}
 use Rattle.pbs_check.specs.Recursion.{IsWithin, Whole, OfPart, UsesAt, Here}
-use Rattle.pbs_check.specs.Truth.{FactsAre, IsSettled, Settled, AreFirst, Settles}
+use Rattle.pbs_check.specs.inner.Truth.{FactsAre, IsSettled, Settled, AreFirst, Settles}
 use Rattle.pbs_check.proofs.LeastLemmas.{no_item, item_cases}
 use Rattle.pbs_check.proofs.FactLemmas.{row_all_is, row_any_is}
 use Rattle.pbs_check.proofs.FactTruth.{after_some, either_some, or_some, scope_some, facts_are, named_is}

@@ -6,7 +6,7 @@ use Rattle.std.specs.Cmp.Lexicographic.{pointwise, same_text}
 use Rattle.pbs_base.specs.declared.refusal.Span.{Span}
 use Rattle.pbs_check.specs.declared.named.Named.{Named}
 use Rattle.pbs_check.specs.Least.{least_of}
-use Rattle.pbs_check.specs.Twices.{first_place, later_of, first_twice}
+use Rattle.pbs_check.specs.inner.Twices.{first_place, later_of, first_twice}
 
 pub record IsTwiceTo (all left : List Named) (place : List ℕ → Option Span) (found : Option Span) : Type 0 where
   pub rest : List Named

@@ -9,7 +9,7 @@ use Rattle.pbs_base.specs.declared.refusal.Span.{Span}
 use Rattle.pbs_check.specs.declared.named.Named.{Named}
 use Rattle.pbs_check.specs.Declaring.{Twice, First, Further}
 use Rattle.pbs_check.specs.Least.{span_le, later_span, IsLeast}
-use Rattle.pbs_check.specs.Twices.{first_place, later_of, first_twice}
+use Rattle.pbs_check.specs.inner.Twices.{first_place, later_of, first_twice}
 use Rattle.pbs_check.proofs.LeastLemmas.{span_refl, span_trans, span_total, least_either, first_item, later_item}
 use Rattle.pbs_check.proofs.LeastLemmas.{no_item, item_cases}
 

@@ -22,9 +22,10 @@ use Rattle.pbs_check.specs.Declaring.{declared_names}
 use Rattle.pbs_check.specs.Least.{span_le, IsLeast, least_by}
 use Rattle.pbs_check.specs.Using.{Use, use_of, Leaf, NameLeaf, EqualLeaf, leaves, leaf_use, own_uses, bus_names, IsUse}
 use Rattle.pbs_check.specs.Using.{InExpr, InLevel, IsDeclared, IsKind, Rule6, NotDeclared, Rule7, WrongKind}
-use Rattle.pbs_check.specs.Walking.{kind_numbers, name_broken, leaf_broken, copies_broken, star_broken, scope_broken}
-use Rattle.pbs_check.specs.Walking.{form_broken, own_broken, set_broken, level_broken}
-use Rattle.pbs_check.specs.Stages.{IsTables, found_in}
+use Rattle.pbs_check.specs.inner.Walking.{kind_numbers, name_broken, leaf_broken, copies_broken, star_broken}
+use Rattle.pbs_check.specs.inner.Walking.{scope_broken}
+use Rattle.pbs_check.specs.inner.Walking.{form_broken, own_broken, set_broken, level_broken}
+use Rattle.pbs_check.specs.inner.Stages.{IsTables, found_in}
 use Rattle.pbs_check.proofs.LeastLemmas.{span_refl, least_either, least_same, least_by_is, least_map, least_one}
 use Rattle.pbs_check.proofs.LeastLemmas.{least_of_none, OneOf, ByItem}
 use Rattle.pbs_check.proofs.NamedLemmas.{is_in, is_out}

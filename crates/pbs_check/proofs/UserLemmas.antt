@@ -8,7 +8,7 @@ use Rattle.std.proofs.lemmas.Bool.Decides.{eqb_tells}
 use Rattle.std.proofs.lemmas.List.Elements.{Contains-append_cases, Contains-append_left, Contains-append_right}
 use Rattle.pbs_base.specs.declared.refusal.Span.{Span}
 use Rattle.pbs_check.specs.declared.graph.Link.{Link}
-use Rattle.pbs_check.specs.Links.{link, HasUse, At, HasNext, By, AreUsers, AddsUsers}
+use Rattle.pbs_check.specs.inner.Links.{link, HasUse, At, HasNext, By, AreUsers, AddsUsers}
 use Rattle.pbs_check.proofs.LeastLemmas.{first_item, no_item, item_cases}
 use Rattle.pbs_check.proofs.GraphLemmas.{get_at}
 

@@ -17,7 +17,7 @@ use Rattle.pbs_ast.specs.declared.syntax.SpecTerm.{items_hidden-the_row-SpecTerm
 use Rattle.pbs_ast.specs.declared.syntax.SpecTerm.TheBlock.{hidden-the_row-SpecTerm-0}
 use Rattle.pbs_rules.specs.Forms.{expr_of}
 use Rattle.pbs_check.specs.Using.{leaves, row_leaves}
-use Rattle.pbs_check.specs.Walking.{below_kind, row_inside, inside, inside_all, inside_prods, all_leaves}
+use Rattle.pbs_check.specs.inner.Walking.{below_kind, row_inside, inside, inside_all, inside_prods, all_leaves}
 
 -- a number of 32 bits is below the powers of 2 from 32 on
 pub beyond_wide : (w n : ℕ) → 32 ≤ w → n < 2 ^ 32 → false ≡ nat_le (2 ^ w) n

@@ -1,13 +1,6 @@
 pub mod Checked
-pub mod Circles
+pub mod inner
 pub mod Declaring
-pub mod Facts
 pub mod Least
-pub mod Links
 pub mod Recursion
-pub mod Searching
-pub mod Stages
-pub mod Truth
-pub mod Twices
 pub mod Using
-pub mod Walking

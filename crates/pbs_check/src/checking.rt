@@ -1,9 +1,9 @@
 // Rules 5 to 11, 18 and 19, one after another.
 ghost use Rattle.std.specs.Prelude.{◌≡◌, IfOk, OnOk};
 ghost use Rattle.pbs_check.specs.Checked.{Checks};
-ghost use Rattle.pbs_check.specs.Stages.{ChecksTo, KeepsBelow, refuse};
-ghost use Rattle.pbs_check.specs.Stages.{IsTables};
-ghost use Rattle.pbs_check.specs.Truth.{IsKnown};
+ghost use Rattle.pbs_check.specs.inner.Stages.{ChecksTo, KeepsBelow, refuse};
+ghost use Rattle.pbs_check.specs.inner.Stages.{IsTables};
+ghost use Rattle.pbs_check.specs.inner.Truth.{IsKnown};
 
 use crate::failure::Check;
 use crate::graph::Graph;

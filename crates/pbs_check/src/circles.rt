@@ -1,6 +1,6 @@
 // The circles in which productions use each other: two are in one where each can be reached from the other by uses.
 ghost use Rattle.std.specs.Prelude.{◌<◌, length, IfOk};
-ghost use Rattle.pbs_check.specs.Links.{AreTargets, AreUsers, IsClosed};
+ghost use Rattle.pbs_check.specs.inner.Links.{AreTargets, AreUsers, IsClosed};
 
 use crate::graph::Graph;
 use crate::searching::{has_label, spread};
@@ -17,8 +17,8 @@ pub struct Circles {
 
 impl Circles {
     ghost use Rattle.std.specs.Prelude.{◌≡◌, ℕ, None};
-    ghost use Rattle.pbs_check.specs.Searching.{IsMarked};
-    ghost use Rattle.pbs_check.specs.Circles.{AreAllRoots, AreCircles, HasRoot, KeepsRoots};
+    ghost use Rattle.pbs_check.specs.inner.Searching.{IsMarked};
+    ghost use Rattle.pbs_check.specs.inner.Circles.{AreAllRoots, AreCircles, HasRoot, KeepsRoots};
 
     fn new(alloc: Global, count: usize) -> Result<Circles, Memory>
         ensures roots { IfOk result (λ circles. length circles.roots.items ≡ count) }

@@ -1,7 +1,7 @@
 // Rules 5 and 11: what is declared twice, and what is declared too often.
 ghost use Rattle.std.specs.Prelude.{◌≡◌, IfOk};
 ghost use Rattle.pbs_check.specs.Least.{least_by};
-ghost use Rattle.pbs_check.specs.Stages.{level_twice, found_twice, over_inputs, found_over};
+ghost use Rattle.pbs_check.specs.inner.Stages.{level_twice, found_twice, over_inputs, found_over};
 
 use crate::least::least_of;
 use crate::named::{declared_names, first_twice, listed};

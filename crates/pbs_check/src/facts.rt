@@ -1,7 +1,7 @@
 // What is known of productions, and of the expressions in which they are named.
 ghost use Rattle.std.specs.Prelude.{◌≡◌};
-ghost use Rattle.pbs_check.specs.Facts.{fact, known_of, after, either, or_empty, scope_of};
-ghost use Rattle.pbs_check.specs.Facts.{expr_facts, all_facts, any_facts, choice_of};
+ghost use Rattle.pbs_check.specs.inner.Facts.{fact, known_of, after, either, or_empty, scope_of};
+ghost use Rattle.pbs_check.specs.inner.Facts.{expr_facts, all_facts, any_facts, choice_of};
 
 use pbs_ast::{Expr, Items, Kind};
 use pbs_base::Word;

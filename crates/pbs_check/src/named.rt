@@ -3,7 +3,7 @@ ghost use Rattle.std.specs.Prelude.{◌≡◌, ◌++◌, IfOk, OnOk, Some};
 ghost use Rattle.pbs_check.specs.Declaring.{named, declared_by, declared_inputs, declared_actions};
 ghost use Rattle.pbs_check.specs.Declaring.{declared_levels, declared_prods, declared_names, listed};
 ghost use Rattle.pbs_check.specs.Least.{least_of};
-ghost use Rattle.pbs_check.specs.Twices.{first_twice, later_of};
+ghost use Rattle.pbs_check.specs.inner.Twices.{first_twice, later_of};
 
 use crate::least::{earlier, later, least_of};
 use pbs_ast::{Decl, Decls, Levels, Prods, Sets, Spec};

@@ -1,8 +1,8 @@
 // The least use at which productions use each other in a circle.
 ghost use Rattle.std.specs.Prelude.{◌≡◌, None, slice_index_or};
-ghost use Rattle.pbs_check.specs.Circles.{AreAllRoots, round_span};
+ghost use Rattle.pbs_check.specs.inner.Circles.{AreAllRoots, round_span};
 ghost use Rattle.pbs_check.specs.Least.{IsLeast, least_by};
-ghost use Rattle.pbs_check.specs.Links.{HasRecursion};
+ghost use Rattle.pbs_check.specs.inner.Links.{HasRecursion};
 
 use crate::graph::Link;
 use crate::least::least_of;

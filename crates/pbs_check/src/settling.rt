@@ -1,7 +1,7 @@
 // Productions one after another, each once all is known of those that it uses.
 ghost use Rattle.std.specs.Prelude.{◌≡◌, ◌<◌, true, false, None, OnOk, IfOk, Contains};
-ghost use Rattle.pbs_check.specs.Facts.{known_of, expr_facts};
-ghost use Rattle.pbs_check.specs.Truth.{AreFirst, IsStuck, Settles, unknown_count};
+ghost use Rattle.pbs_check.specs.inner.Facts.{known_of, expr_facts};
+ghost use Rattle.pbs_check.specs.inner.Truth.{AreFirst, IsStuck, Settles, unknown_count};
 
 use crate::facts::{Known, expr_facts};
 use pbs_ast::{Prod, Prods};

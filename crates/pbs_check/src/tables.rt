@@ -1,6 +1,6 @@
 // The tables of the declared names.
 ghost use Rattle.std.specs.Prelude.{◌≡◌, IfOk, map};
-ghost use Rattle.pbs_check.specs.Stages.{IsTables};
+ghost use Rattle.pbs_check.specs.inner.Stages.{IsTables};
 ghost use Rattle.pbs_check.specs.Using.{bus_names};
 
 use crate::facts::Known;

@@ -1,8 +1,8 @@
 // Walks over a whole specification.
 ghost use Rattle.std.specs.Prelude.{◌≡◌};
 ghost use Rattle.pbs_check.specs.Least.{least_by};
-ghost use Rattle.pbs_check.specs.Stages.{found_in};
-ghost use Rattle.pbs_check.specs.Walking.{own_broken, inside_prods, set_broken, level_broken};
+ghost use Rattle.pbs_check.specs.inner.Stages.{found_in};
+ghost use Rattle.pbs_check.specs.inner.Walking.{own_broken, inside_prods, set_broken, level_broken};
 
 use crate::least::least_of;
 use crate::uses::{Look, Tables, Wanted, expr_broken, name_broken};

@@ -10,7 +10,7 @@ use Rattle.pbs_text.specs.Answers.{ByLength}
 use Rattle.vlog_text.specs.Reading as vlog
 use Rattle.pbs_engine.specs.Accepted.{Breaks, OnReading}
 use Rattle.pbs_cli.specs.Answers.{Answer, accepted, refused, Wrote, CutShort}
-use Rattle.pbs_cli.specs.Parts.{WritesText, EndsAlone, IsTooLong, FirstGives, ReadsFirst}
+use Rattle.pbs_cli.specs.inner.Parts.{WritesText, EndsAlone, IsTooLong, FirstGives, ReadsFirst}
 use Rattle.pbs_cli.specs.declared.first.First.{First}
 use Rattle.pbs_cli.specs.declared.first.First.TheVariants as first
 use Rattle.pbs_cli.specs.declared.status.Status.{Status}

@@ -12,7 +12,7 @@ use Rattle.pbs_cli.specs.Words.{Command}
 use Rattle.pbs_cli.specs.Answers.{Answer, Task, Ends, Stopped, Defines, NeedsFiles, NeedsNoSecond, HasNeeded, trace_of}
 use Rattle.pbs_cli.specs.Answers.{first_of, first_most}
 use Rattle.pbs_cli.specs.Answers.{DueRows, ReadToEnd, command_task}
-use Rattle.pbs_cli.specs.Parts.{EndsAlone, EndsRun, EndsCommand}
+use Rattle.pbs_cli.specs.inner.Parts.{EndsAlone, EndsRun, EndsCommand}
 use Rattle.pbs_cli.proofs.AnswerLemmas.{nothing_written, wrote_more, cut_more}
 use Rattle.pbs_cli.specs.declared.status.Status.{Status}
 use Rattle.pbs_cli.specs.declared.status.Status.TheVariants.{Accepted, Refused, Usage, ReadFault, WriteFault, Memory}

@@ -15,8 +15,9 @@ use Rattle.pbs_engine.specs.Outcomes.{TextGives, FiredRows, text_task}
 use Rattle.pbs_cli.specs.Words.{Sim, Trace}
 use Rattle.pbs_cli.specs.Answers.{Answer, refused, Traces, OnOutcome, Simulates, OnNetlist, OnBadNetlist, Ends}
 use Rattle.pbs_cli.specs.Answers.{command_task}
-use Rattle.pbs_cli.specs.Parts.{WritesText, EndsAlone, EndsSim, Finishes, Answered, OnGiven, run_answers, trace_answers}
-use Rattle.pbs_cli.specs.Parts.{sim_answers}
+use Rattle.pbs_cli.specs.inner.Parts.{WritesText, EndsAlone, EndsSim, Finishes, Answered, OnGiven, run_answers}
+use Rattle.pbs_cli.specs.inner.Parts.{trace_answers}
+use Rattle.pbs_cli.specs.inner.Parts.{sim_answers}
 use Rattle.pbs_cli.proofs.AnswerLemmas.{refuses, refused_not_accepted, wrote_more, cut_more}
 use Rattle.pbs_cli.proofs.RunLemmas.{run_finishes}
 use Rattle.pbs_cli.proofs.CommandLemmas.{IsPart, ends_more, took_little, took_few}

@@ -13,7 +13,7 @@ use Rattle.net_trace.specs.Endings.{RunTask, RunEnds, WroteLines, WroteFront}
 use Rattle.net_trace.specs.declared.fail.RunFail.{RunFail}
 use Rattle.net_trace.specs.declared.fail.RunFail.TheVariants as fails
 use Rattle.pbs_cli.specs.Answers.{ended, Wrote, CutShort, Ends}
-use Rattle.pbs_cli.specs.Parts.{WritesText, Finishes, Answered, OnGiven, run_answers}
+use Rattle.pbs_cli.specs.inner.Parts.{WritesText, Finishes, Answered, OnGiven, run_answers}
 use Rattle.pbs_cli.proofs.AnswerLemmas.{refused_not_accepted}
 use Rattle.pbs_cli.specs.declared.status.Status.{Status}
 use Rattle.pbs_cli.specs.declared.status.Status.TheVariants.{Accepted, Refused, Usage, ReadFault, WriteFault, Memory}

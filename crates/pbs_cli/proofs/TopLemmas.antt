@@ -5,10 +5,10 @@ use Rattle.pbs_base.specs.Outside.{ShelfState, SinkState, NamedFile, Rose}
 use Rattle.pbs_base.proofs.WrittenLemmas.{append_known-nil}
 use Rattle.pbs_cli.specs.Words.{Command}
 use Rattle.pbs_cli.specs.Words as words
-use Rattle.pbs_cli.specs.Status.{code_of}
+use Rattle.pbs_cli.specs.inner.Status.{code_of}
 use Rattle.net_trace.specs.Taken.{TakesAtMost}
 use Rattle.pbs_cli.specs.Answers.{Wrote, Defines, NeedsNoSecond, ReadToEnd, first_of, trace_of}
-use Rattle.pbs_cli.specs.Parts.{EndsCommand}
+use Rattle.pbs_cli.specs.inner.Parts.{EndsCommand}
 use Rattle.pbs_cli.proofs.CommandLemmas.{FirstFew, took_few}
 use Rattle.pbs_cli.specs.declared.status.Status.{Status}
 use Rattle.pbs_cli.specs.declared.status.Status.TheVariants.{Accepted, Refused, Usage, ReadFault, WriteFault, Memory}

@@ -1,4 +1,3 @@
 pub mod Words
-pub mod Status
+pub mod inner
 pub mod Answers
-pub mod Parts

@@ -1,6 +1,6 @@
 // The command `check SPEC`.
 ghost use Rattle.pbs_cli.specs.Answers.{Checks};
-ghost use Rattle.pbs_cli.specs.Parts.{EndsAlone, EndsCommand};
+ghost use Rattle.pbs_cli.specs.inner.Parts.{EndsAlone, EndsCommand};
 ghost use Rattle.pbs_cli.specs.Words.{Check};
 
 use crate::first::{First, accept, read_spec, refuse};

@@ -1,6 +1,6 @@
 // The command `compile SPEC`.
 ghost use Rattle.pbs_cli.specs.Answers.{Compiled};
-ghost use Rattle.pbs_cli.specs.Parts.{EndsAlone, EndsCommand};
+ghost use Rattle.pbs_cli.specs.inner.Parts.{EndsAlone, EndsCommand};
 ghost use Rattle.pbs_cli.specs.Words.{Compile};
 
 use crate::first::{First, accept, read_spec, refuse};

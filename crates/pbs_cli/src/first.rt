@@ -3,7 +3,7 @@ ghost use Rattle.std.specs.Prelude.{◌≡◌, ◌<◌};
 ghost use Rattle.pbs_base.specs.Refusal.{refusal_line};
 ghost use Rattle.vlog_text.specs.Reading.{IsRefusedBy};
 ghost use Rattle.pbs_engine.specs.Accepted.{Breaks};
-ghost use Rattle.pbs_cli.specs.Parts.{IsTooLong, ReadsFirst, WritesText, too_long};
+ghost use Rattle.pbs_cli.specs.inner.Parts.{IsTooLong, ReadsFirst, WritesText, too_long};
 ghost use Rattle.pbs_cli.specs.declared.status.Status.TheVariants as status;
 
 use crate::status::Status;

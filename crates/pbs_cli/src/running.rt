@@ -1,6 +1,6 @@
 // How a run on a trace is answered.
 ghost use Rattle.std.specs.Prelude.{◌≡◌, Err};
-ghost use Rattle.pbs_cli.specs.Parts.{Finishes};
+ghost use Rattle.pbs_cli.specs.inner.Parts.{Finishes};
 
 use crate::first::refuse;
 use crate::status::Status;

@@ -1,6 +1,6 @@
 // The command `sim NETLIST TRACE`.
 ghost use Rattle.vlog_text.specs.Reading.{StandsFor};
-ghost use Rattle.pbs_cli.specs.Parts.{EndsCommand, EndsSim};
+ghost use Rattle.pbs_cli.specs.inner.Parts.{EndsCommand, EndsSim};
 ghost use Rattle.pbs_cli.specs.Words.{Sim};
 
 use crate::first::{First, read_verilog, refuse};

@@ -1,6 +1,6 @@
 // How a call ends: docs/FORMATS.md, "Statuses".
 ghost use Rattle.std.specs.Prelude.{◌≡◌};
-ghost use Rattle.pbs_cli.specs.Status.{code_of};
+ghost use Rattle.pbs_cli.specs.inner.Status.{code_of};
 
 #[derive(Clone, Copy, Debug, PartialEq, Eq)]
 pub(crate) enum Status {

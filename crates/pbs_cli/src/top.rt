@@ -7,7 +7,7 @@ ghost use Rattle.net_trace.specs.Endings.{WroteTaken};
 ghost use Rattle.net_trace.specs.Taken.{Stops, TakesAtMost, TakesLittle};
 ghost use Rattle.pbs_cli.specs.Answers.{Wrote, CutShort, Defines, NeedsFiles, NeedsNoSecond, HasNeeded};
 ghost use Rattle.pbs_cli.specs.Answers.{DueRows, ReadToEnd, first_of, first_most, trace_of};
-ghost use Rattle.pbs_cli.specs.Parts.{EndsCommand};
+ghost use Rattle.pbs_cli.specs.inner.Parts.{EndsCommand};
 ghost use Rattle.pbs_cli.specs.declared.status.Status.TheVariants as status;
 
 use crate::checking::check_file;

@@ -1,5 +1,5 @@
 // The command `trace SPEC TRACE`.
-ghost use Rattle.pbs_cli.specs.Parts.{EndsCommand, EndsTrace};
+ghost use Rattle.pbs_cli.specs.inner.Parts.{EndsCommand, EndsTrace};
 ghost use Rattle.pbs_cli.specs.Words.{Trace};
 
 use crate::first::{First, read_spec, refuse};

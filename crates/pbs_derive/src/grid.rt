@@ -1,6 +1,6 @@
 // Tables of what is true of each stretch of a run.
 ghost use Rattle.std.specs.Prelude.{◌≡◌, ◌≤◌, ◌<◌, ◌^◌};
-ghost use Rattle.pbs_derive.specs.Tables.{entry, at, joint, throughout, aborted};
+ghost use Rattle.pbs_derive.specs.inner.Tables.{entry, at, joint, throughout, aborted};
 
 use pbs_base::Listed;
 

@@ -4,8 +4,8 @@ ghost use Rattle.bool_terms.specs.Terms.{holds, term_of, term_inputs_below};
 ghost use Rattle.pbs_ast.specs.Trees.{tree_of};
 ghost use Rattle.pbs_ast.specs.Sound.{inputs_below};
 ghost use Rattle.pbs_derive.specs.Derivations.{covers};
-ghost use Rattle.pbs_derive.specs.Tables.{IsTables, IsStepOk, terminal_step_of, seq_step_of, choice_step_of};
-ghost use Rattle.pbs_derive.specs.Tables.{star_step_of, hold_step_of, scope_step_of};
+ghost use Rattle.pbs_derive.specs.inner.Tables.{IsTables, IsStepOk, terminal_step_of, seq_step_of, choice_step_of};
+ghost use Rattle.pbs_derive.specs.inner.Tables.{star_step_of, hold_step_of, scope_step_of};
 
 use crate::grid::at;
 use crate::step::{Step, Tables, step_tables};

@@ -8,9 +8,9 @@ use Rattle.pbs_ast.specs.Sound.{visit_count, place_count, scope_count}
 use Rattle.pbs_edges.proofs.Numbering.{numbered}
 use Rattle.pbs_edges.proofs.Numbering.{IsNumbered}
 use Rattle.pbs_edges.specs.Edges.{Round, Body, Trap, Among, ScopedEdge, IsFollow, Aborts, Enters, LiesInBody, Leaves}
-use Rattle.pbs_edges.specs.Rounds.{place_rounds, node_rounds}
-use Rattle.pbs_edges.specs.ByNumber.{PlaceInBody, PlaceInTrap, NodeInBody, AbortsByNumber, EntersByNumber}
-use Rattle.pbs_edges.specs.ByNumber.{LeavesByNumber}
+use Rattle.pbs_edges.specs.inner.Rounds.{place_rounds, node_rounds}
+use Rattle.pbs_edges.specs.inner.ByNumber.{PlaceInBody, PlaceInTrap, NodeInBody, AbortsByNumber, EntersByNumber}
+use Rattle.pbs_edges.specs.inner.ByNumber.{LeavesByNumber}
 use Rattle.pbs_edges.proofs.Rounds.{Place, place_here, place_left, place_right, place_either, place_or, place_star}
 use Rattle.pbs_edges.proofs.Rounds.{place_hold, place_body, place_trap, place_after, pair_parts, scope_parts}
 use Rattle.pbs_edges.proofs.Rounds.{place_left_by, place_reached_by, edge_rounds}

@@ -3,7 +3,7 @@ use Rattle.std.proofs.Common.{◌≡◌, ℕ, ◌+◌, ◌*◌, ◌≤◌, ◌&&
 use Rattle.std.proofs.Common.{refl, sym, ◌∙◌, ap, arith, length-append}
 use Rattle.pbs_ast.specs.Trees.{Spot, Tree, Seq, Star, Scope, nullable}
 use Rattle.pbs_edges.specs.Listed.{first_places, last_places, follow_edges, edges_to, edges_between}
-use Rattle.pbs_edges.specs.Counting.{AreCounts}
+use Rattle.pbs_edges.specs.inner.Counting.{AreCounts}
 use Rattle.pbs_edges.specs.declared.edge.Edge.{Edge}
 use Rattle.pbs_edges.specs.declared.counts.Counts.{Counts}
 

@@ -6,7 +6,7 @@ use Rattle.pbs_edges.specs.Edges.{ScopedEdge, IsFollow, Enters, LiesInBody}
 use Rattle.pbs_edges.specs.Walks.{IsJointStep, AbortsAgree, Reaches, IsRefused}
 use Rattle.pbs_edges.specs.Listed.{first_places, follow_edges}
 use Rattle.pbs_edges.specs.declared.edge.Edge.{Edge}
-use Rattle.pbs_edges.specs.ByNumber.{AbortsAgreeByNumber, Fits, RefusesByNumber}
+use Rattle.pbs_edges.specs.inner.ByNumber.{AbortsAgreeByNumber, Fits, RefusesByNumber}
 use Rattle.pbs_edges.proofs.ByNumber.{aborts_by_number, enters_by_number, lies_by_number, leaves_by_number}
 use Rattle.pbs_edges.proofs.Listed.{OneOf, listed_first, first_listed, listed_follow, follow_listed, numbers}
 use Rattle.pbs_edges.proofs.Closure.{reaches-closed, reaches-step, reaches-start, refused_from_step, step_from_refused}

@@ -7,7 +7,7 @@ use Rattle.pbs_ast.specs.Trees.{Spot, Tree, Terminal, Seq, Choice, Star, Hold, S
 use Rattle.pbs_ast.specs.Sound.{visit_count, place_count, scope_count}
 use Rattle.pbs_edges.proofs.Numbering.{numbered}
 use Rattle.pbs_edges.proofs.Numbering.{IsNumbered}
-use Rattle.pbs_edges.specs.Rounds.{place_rounds, node_rounds}
+use Rattle.pbs_edges.specs.inner.Rounds.{place_rounds, node_rounds}
 use Rattle.pbs_edges.specs.Edges.{Round, Body, Trap, First, first_terminal, first_left, first_right, first_either}
 use Rattle.pbs_edges.specs.Edges.{first_or, first_star, first_hold, first_body, first_trap, Last, last_terminal}
 use Rattle.pbs_edges.specs.Edges.{last_right, last_left, last_either, last_or, last_star, last_hold, last_body}

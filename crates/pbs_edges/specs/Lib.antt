@@ -1,10 +1,7 @@
 pub mod Edges
 pub mod Walks
-pub mod Rounds
-pub mod ByNumber
+pub mod inner
 pub mod Listed
 pub mod Effective
-pub mod Counting
-pub mod Ending
 pub mod Found
 pub mod Codes

@@ -2,7 +2,7 @@
 ghost use Rattle.std.specs.Prelude.{◌≡◌, ◌≤◌, ◌+◌, ◌*◌, ◌&&◌, ◌||◌, min, true, if◌then◌else◌};
 ghost use Rattle.pbs_ast.specs.Trees.{tree_of};
 ghost use Rattle.pbs_ast.specs.Sound.{place_count};
-ghost use Rattle.pbs_edges.specs.Counting.{AreCounts, AreFew};
+ghost use Rattle.pbs_edges.specs.inner.Counting.{AreCounts, AreFew};
 
 use pbs_ast::{Tree, TreeKind};
 

@@ -2,7 +2,7 @@
 ghost use Rattle.std.specs.Prelude.{◌≡◌, ◌++◌, ◌&&◌, ◌||◌, [], ◌∷◌, true, false, IfOk, OnOk, if◌then◌else◌};
 ghost use Rattle.pbs_ast.specs.Trees.{tree_of};
 ghost use Rattle.pbs_edges.specs.Listed.{edges_between, edges_to, follow_edges};
-ghost use Rattle.pbs_edges.specs.Ending.{AreEnds};
+ghost use Rattle.pbs_edges.specs.inner.Ending.{AreEnds};
 
 use crate::edge::Edge;
 use pbs_ast::{Tree, TreeKind};

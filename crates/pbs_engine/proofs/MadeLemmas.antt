@@ -11,7 +11,7 @@ use Rattle.pbs_engine.specs.declared.fail.EngineFail.{EngineFail}
 use Rattle.pbs_engine.specs.declared.fail.EngineFail.TheVariants as engine
 use Rattle.pbs_engine.specs.declared.front.Found.{Found}
 use Rattle.pbs_engine.specs.Accepted.{IsFound, IsNotRun, Broken, Unbuilt, Finds, first_scope, first_level, unbuilt}
-use Rattle.pbs_engine.specs.Made.{IsMade, Makes}
+use Rattle.pbs_engine.specs.inner.Made.{IsMade, Makes}
 
 pub is_made : (text : List ℕ) (found : Found) (net : Circuit) → IsFound text found
     → or_else (first_scope (tree_of found.main.tree)) (first_level found.spec) ≡ None

@@ -21,7 +21,7 @@ use Rattle.pbs_controller.specs.Controllers.{IsController}
 use Rattle.pbs_engine.specs.declared.fail.EngineFail.{EngineFail}
 use Rattle.pbs_engine.specs.declared.fail.EngineFail.TheVariants as engine
 use Rattle.pbs_engine.specs.Accepted.{first_scope, first_level, not_built}
-use Rattle.pbs_engine.specs.Made.{IsMade, Makes}
+use Rattle.pbs_engine.specs.inner.Made.{IsMade, Makes}
 use Rattle.pbs_engine.specs.Right.{Realizes, IsVerilogOf, Compiles, IsReadBack, ReadsBack}
 
 -- ---- no scope is left

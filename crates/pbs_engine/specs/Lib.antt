@@ -1,5 +1,5 @@
 pub mod Load
 pub mod Accepted
-pub mod Made
+pub mod inner
 pub mod Right
 pub mod Outcomes

@@ -8,7 +8,7 @@ ghost use Rattle.pbs_check.specs.Checked.{IsUnbroken};
 ghost use Rattle.pbs_expand.specs.Ready.{NamesDeclared};
 ghost use Rattle.pbs_controller.specs.Controllers.{IsController};
 ghost use Rattle.pbs_engine.specs.Accepted.{IsFound, first_level, first_scope, unbuilt};
-ghost use Rattle.pbs_engine.specs.Made.{Makes};
+ghost use Rattle.pbs_engine.specs.inner.Made.{Makes};
 
 use crate::fail::EngineFail;
 use crate::front::{Found, find};

@@ -2,7 +2,7 @@
 use Rattle.std.proofs.Common.{◌≡◌, ℕ, ◌+◌, refl, sym, subst, arith}
 use Rattle.pbs_ast.specs.Trees.{Tree, Empty, Terminal, Action, Seq, Choice, Star, Hold, Scope}
 use Rattle.pbs_ast.specs.Sound.{IsSound, visit_count}
-use Rattle.pbs_examples.specs.Spots.{at}
+use Rattle.pbs_examples.specs.inner.Spots.{at}
 use Rattle.pbs_examples.proofs.Examples.{short_or_long, repeated_step, held_steps, three_rows_and_one}
 
 -- the nodes are numbered from n on, in the order of visits

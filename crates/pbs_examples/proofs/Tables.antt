@@ -4,7 +4,7 @@ use Rattle.std.proofs.Common.{List, [], ◌∷◌, map, length, slice_index}
 use Rattle.bool_terms.specs.Terms.{Term}
 use Rattle.pbs_ast.specs.Trees.{Tree, Spot, is_place, is_action}
 use Rattle.pbs_ast.specs.Trees.{Empty, Terminal, Action, Seq, Choice, Star, Hold, Scope}
-use Rattle.pbs_examples.specs.Spots.{at}
+use Rattle.pbs_examples.specs.inner.Spots.{at}
 use Rattle.pbs_derive.specs.Derivations.{fires, stands}
 use Rattle.pbs_machine.specs.Rows.{main_starts}
 

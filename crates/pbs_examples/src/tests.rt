@@ -2,7 +2,7 @@
 ghost use Rattle.std.specs.Prelude.{◌≡◌, IfOk};
 ghost use Rattle.bool_terms.specs.Terms.{term_of, Not};
 ghost use Rattle.pbs_ast.specs.Trees.{tree_of, Terminal, Action, Seq, Choice, Star, Hold, Scope};
-ghost use Rattle.pbs_examples.specs.Spots.{at};
+ghost use Rattle.pbs_examples.specs.inner.Spots.{at};
 
 use bool_terms::Term;
 use pbs_ast::{Main, Tree, TreeKind};

@@ -10,12 +10,12 @@ use Rattle.pbs_expand.specs.declared.build.Stop.{Stop}
 use Rattle.pbs_expand.specs.declared.build.Stop.TheVariants as stops
 use Rattle.bool_terms.specs.Terms.{Term, term_of}
 use Rattle.pbs_expand.specs.declared.terms.Written.{Written}
-use Rattle.pbs_expand.specs.WrittenTerms.{IsWritten}
+use Rattle.pbs_expand.specs.inner.WrittenTerms.{IsWritten}
 use Rattle.pbs_expand.specs.declared.parts.Pairing.{Pairing}
 use Rattle.pbs_expand.specs.Counting.{node_cost, hold_cost, scope_cost}
-use Rattle.pbs_expand.specs.Outcomes.{enter}
-use Rattle.pbs_expand.specs.Outcomes.{Outcome, Grown, Over, IsOutcome, outcome, entered, after_visit, after_part}
-use Rattle.pbs_expand.specs.Outcomes.{with_tree}
+use Rattle.pbs_expand.specs.inner.Outcomes.{enter}
+use Rattle.pbs_expand.specs.inner.Outcomes.{Outcome, Grown, Over, IsOutcome, outcome, entered, after_visit, after_part}
+use Rattle.pbs_expand.specs.inner.Outcomes.{with_tree}
 use Rattle.pbs_expand.specs.Visits.{as_star, as_hold, as_pair, as_scope}
 use Rattle.pbs_expand.specs.Parts.{Part, Shape, shape, span_of}
 use Rattle.pbs_expand.specs.Walks.{Walk, Beyond, Star, Hold, Pair, Scope, walk, walked}

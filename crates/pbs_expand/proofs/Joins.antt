@@ -9,7 +9,7 @@ use Rattle.bool_terms.specs.declared.Term as terms
 use Rattle.pbs_expand.specs.declared.terms.Connective.{Connective}
 use Rattle.pbs_expand.specs.declared.terms.Connective.TheVariants.{AndOf, OrOf}
 use Rattle.pbs_expand.specs.Written.{joined, both, empty_term}
-use Rattle.pbs_expand.specs.WrittenTerms.{IsJoined, IsWritten, weight}
+use Rattle.pbs_expand.specs.inner.WrittenTerms.{IsJoined, IsWritten, weight}
 
 pub one_joined : (by : Connective) (t : terms.Term) → IsJoined by (term_of t ∷ []) t
 one_joined by t = record { joins = one by t }

@@ -9,9 +9,9 @@ use Rattle.pbs_ast.specs.declared.syntax.Spec.{Spec}
 use Rattle.pbs_expand.specs.Ready.{NamesDeclared}
 use Rattle.pbs_expand.specs.declared.build.Counters.{Counters}
 use Rattle.pbs_rules.specs.Naming.{input_names}
-use Rattle.pbs_expand.specs.Outcomes.{IsWithin}
+use Rattle.pbs_expand.specs.inner.Outcomes.{IsWithin}
 use Rattle.pbs_expand.specs.Parts.{Whole}
-use Rattle.pbs_expand.specs.Outcomes.{Grown, Over, outcome}
+use Rattle.pbs_expand.specs.inner.Outcomes.{Grown, Over, outcome}
 use Rattle.pbs_expand.specs.Visits.{visits, after_visits, first_over, numbered}
 use Rattle.pbs_expand.specs.Expanded.{nothing_yet, main_walk, expanded, over_limit, over_width, refused, refusal}
 use Rattle.pbs_expand.specs.Expanded.{first_refusal}

@@ -15,7 +15,7 @@ use Rattle.pbs_expand.specs.declared.terms.Many.{Many}
 use Rattle.pbs_rules.specs.Naming.{bus_of}
 use Rattle.pbs_rules.specs.declared.buses.Bus.{Bus}
 use Rattle.pbs_expand.specs.Written.{joined, written, written_row, literals, equal_term}
-use Rattle.pbs_expand.specs.WrittenTerms.{IsWritten, AreWritten, AreLiterals, weight}
+use Rattle.pbs_expand.specs.inner.WrittenTerms.{IsWritten, AreWritten, AreLiterals, weight}
 use Rattle.pbs_expand.proofs.Joins.{joined_nodes}
 
 row_items : (inputs : List Decl) (n : _) (row : Row_of-SpecTerm n)

@@ -8,8 +8,8 @@ use Rattle.pbs_expand.specs.declared.build.Counters.{Counters}
 use Rattle.pbs_expand.specs.declared.build.Stop.TheVariants as stops
 use Rattle.pbs_expand.specs.Counting.{fits, sum_of, name_cost, node_cost, terminal_cost, hold_cost, scope_cost}
 use Rattle.pbs_expand.specs.Walks.{Walk, Beyond, Empty, Terminal, Action, Name, Star, Hold, Pair, Scope}
-use Rattle.pbs_expand.specs.Outcomes.{Outcome, Grown, Over, outcome, entered, after_visit, after_part, with_tree}
-use Rattle.pbs_expand.specs.Outcomes.{as_grown}
+use Rattle.pbs_expand.specs.inner.Outcomes.{Outcome, Grown, Over, outcome, entered, after_visit, after_part, with_tree}
+use Rattle.pbs_expand.specs.inner.Outcomes.{as_grown}
 use Rattle.pbs_expand.specs.Visits.{as_star, as_hold, as_pair, as_scope}
 use Rattle.pbs_expand.specs.Visits.{Visit, visit, visits, after_visits, first_over, numbered}
 

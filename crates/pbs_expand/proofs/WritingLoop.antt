@@ -8,7 +8,7 @@ use Rattle.pbs_expand.specs.Written.{literal, literals}
 use Rattle.std.specs.Prelude.{if◌then◌else◌}
 use Rattle.std.proofs.lemmas.Nat.Bits.{shr_and_one}
 use Rattle.pbs_expand.specs.declared.terms.Written.{Written}
-use Rattle.pbs_expand.specs.WrittenTerms.{weight, IsWritten}
+use Rattle.pbs_expand.specs.inner.WrittenTerms.{weight, IsWritten}
 
 pub record IsWritingTo (ts : List Term) (index room : ℕ) (done : List Term) (nodes : ℕ) : Type 0 where
   pub terms : done ++ drop index ts ≡ ts

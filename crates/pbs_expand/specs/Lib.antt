@@ -1,11 +1,9 @@
 pub mod Counting
 pub mod Expanded
-pub mod Numbers
-pub mod Outcomes
+pub mod inner
 pub mod Parts
 pub mod Ready
 pub mod Visits
 pub mod Walks
 pub mod Wide
 pub mod Written
-pub mod WrittenTerms

@@ -2,9 +2,9 @@
 
 ghost use Rattle.std.specs.Prelude.{◌≡◌, ◌≤◌};
 ghost use Rattle.pbs_ast.specs.Trees.{tree_of, tree_from, spot_of};
-ghost use Rattle.pbs_expand.specs.Outcomes.{IsWithin, IsCost, enter};
-ghost use Rattle.pbs_expand.specs.Outcomes.{Outcome, IsOutcome, entered, with_tree};
-ghost use Rattle.pbs_expand.specs.Outcomes.{as_grown};
+ghost use Rattle.pbs_expand.specs.inner.Outcomes.{IsWithin, IsCost, enter};
+ghost use Rattle.pbs_expand.specs.inner.Outcomes.{Outcome, IsOutcome, entered, with_tree};
+ghost use Rattle.pbs_expand.specs.inner.Outcomes.{as_grown};
 ghost use Rattle.pbs_expand.specs.Visits.{as_star, as_hold, as_pair, as_scope};
 ghost use Rattle.bool_terms.specs.Terms.{term_of};
 

@@ -2,10 +2,10 @@
 
 ghost use Rattle.std.specs.Prelude.{◌≡◌};
 ghost use Rattle.pbs_expand.specs.Parts.{part_of};
-ghost use Rattle.pbs_expand.specs.Outcomes.{IsWithin};
-ghost use Rattle.pbs_expand.specs.Outcomes.{IsOutcome, outcome};
+ghost use Rattle.pbs_expand.specs.inner.Outcomes.{IsWithin};
+ghost use Rattle.pbs_expand.specs.inner.Outcomes.{IsOutcome, outcome};
 ghost use Rattle.pbs_rules.specs.Naming.{action_names, index_of};
-ghost use Rattle.pbs_expand.specs.Numbers.{Serves};
+ghost use Rattle.pbs_expand.specs.inner.Numbers.{Serves};
 ghost use Rattle.pbs_expand.specs.Walks.{walk, action_walk};
 ghost use Rattle.pbs_expand.specs.Walks as walks;
 ghost use Rattle.pbs_expand.specs.Written.{written};

@@ -5,7 +5,7 @@ ghost use Rattle.bool_terms.specs.Terms.{term_of, term_nodes, Not, Input};
 ghost use Rattle.pbs_rules.specs.Naming.{index_of, input_names, bus_of};
 ghost use Rattle.pbs_rules.specs.Numbers.{IsNumbering};
 ghost use Rattle.pbs_expand.specs.Written.{written, named_term, both, empty_term, equal_term, joined, literals};
-ghost use Rattle.pbs_expand.specs.WrittenTerms.{IsWritten, IsJoined, AreWritten, AreLiterals, weight};
+ghost use Rattle.pbs_expand.specs.inner.WrittenTerms.{IsWritten, IsJoined, AreWritten, AreLiterals, weight};
 
 use bool_terms::Term;
 use pbs_ast::{Decls, SpecTerm, TermItems};

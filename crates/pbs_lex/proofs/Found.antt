@@ -1,6 +1,7 @@
 -- What the tokens of a text are: its names are words that aren't reserved, and its numbers are small.
 use Rattle.std.proofs.Common.{◌≡◌, ℕ, zero, suc, ◌+◌, ◌-◌, ◌<◌, ◌≤◌, List, [], ◌∷◌, ◌++◌, length, take, drop, Bool}
-use Rattle.std.proofs.Common.{true, false, nat_lt, Option, Some, None, Result, Ok, Err, refl, sym, subst, arith, ap, ◌∙◌}
+use Rattle.std.proofs.Common.{true, false, nat_lt, Option, Some, None, Result, Ok, Err, refl, sym, subst, arith, ap}
+use Rattle.std.proofs.Common.{◌∙◌}
 use Rattle.std.specs.Prelude.{if◌then◌else◌, ◌==◌, codes, ◌&&◌}
 use Rattle.std.specs.List.{prefix_len, list_all}
 use Rattle.std.specs.Str.{bytes_eq}

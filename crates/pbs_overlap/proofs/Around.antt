@@ -8,7 +8,7 @@ use Rattle.std.proofs.lemmas.Option.{same_Some}
 use Rattle.pbs_ast.specs.Trees.{Tree, Empty, Terminal, Action, Seq, Choice, Star, Hold, Scope}
 use Rattle.pbs_ast.specs.Sound.{visit_count, place_count, scope_count}
 use Rattle.pbs_edges.specs.Edges.{Round, Body, Trap, Among}
-use Rattle.pbs_edges.specs.Rounds.{node_rounds}
+use Rattle.pbs_edges.specs.inner.Rounds.{node_rounds}
 use Rattle.pbs_edges.proofs.Numbering.{numbered}
 use Rattle.pbs_edges.proofs.Rounds.{pair_parts, scope_parts}
 use Rattle.pbs_overlap.specs.declared.ranges.ScopeRange.{ScopeRange}

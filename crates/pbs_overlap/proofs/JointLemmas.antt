@@ -19,7 +19,7 @@ use Rattle.pbs_edges.specs.Walks.{CanOpenTogether}
 use Rattle.pbs_edges.specs.declared.terms.TermTable.{TermTable}
 use Rattle.pbs_edges.proofs.FewTerms.{TellsTerm, term_of_place, numbers_of_places, many_terms}
 use Rattle.pbs_overlap.specs.declared.joint.JointTerms.{JointTerms}
-use Rattle.pbs_overlap.specs.Joints.{node_at, joint_at, AllInputsBelow, AllNodes, AreNodes, AreTold, TellsJoint}
+use Rattle.pbs_overlap.specs.inner.Joints.{node_at, joint_at, AllInputsBelow, AllNodes, AreNodes, AreTold, TellsJoint}
 use Rattle.pbs_overlap.proofs.Pigeonhole.{not_few_and_many}
 use Rattle.pbs_overlap.proofs.Vectors.{both_or_never}
 

@@ -7,7 +7,7 @@ use Rattle.std.proofs.lemmas.List.{get_or_push, get_or_append_left}
 use Rattle.bool_bdd.specs.Diagrams.{AreDisjoint}
 use Rattle.bool_bdd.specs.declared.node.Node.{Node}
 use Rattle.bool_bdd.specs.declared.node.Branch.{Branch}
-use Rattle.pbs_overlap.specs.Joints.{AreTold, node_at}
+use Rattle.pbs_overlap.specs.inner.Joints.{AreTold, node_at}
 
 not_false_to : (b : Bool) → not b ≡ false → b ≡ true
 not_false_to true h = refl

@@ -4,10 +4,10 @@ use Rattle.std.proofs.Common.{Option, Some, None}
 use Rattle.std.proofs.lemmas.Bool.{cases_eq, cases_lt, cases_Bool, cond-true, cond-false}
 use Rattle.pbs_overlap.specs.declared.search.Plan.{Plan}
 use Rattle.pbs_overlap.specs.declared.search.Reached.{Reached}
-use Rattle.pbs_overlap.specs.Joints.{joint_at}
-use Rattle.pbs_overlap.specs.Steps.{refused_scope, region_refused}
-use Rattle.pbs_overlap.specs.Search.{Between, marked_at, fit_at, step_at}
-use Rattle.pbs_overlap.specs.Lowest.{lower_of, IsLowest, RefusesWith}
+use Rattle.pbs_overlap.specs.inner.Joints.{joint_at}
+use Rattle.pbs_overlap.specs.inner.Steps.{refused_scope, region_refused}
+use Rattle.pbs_overlap.specs.inner.Search.{Between, marked_at, fit_at, step_at}
+use Rattle.pbs_overlap.specs.inner.Lowest.{lower_of, IsLowest, RefusesWith}
 
 pub lowest_none : (P : ℕ → Type 0) → ((s : ℕ) → P s → ⊥) → IsLowest P None
 lowest_none P none = record {

@@ -7,7 +7,7 @@ use Rattle.std.proofs.lemmas.List.{get_or_append_left, get_or-append_right}
 use Rattle.pbs_ast.specs.Trees.{Spot, Tree, Empty, Terminal, Action, Seq, Choice, Star, Hold, Scope}
 use Rattle.pbs_ast.specs.Sound.{visit_count, place_count, scope_count}
 use Rattle.pbs_edges.specs.Edges.{Body, Trap}
-use Rattle.pbs_edges.specs.Rounds.{place_rounds, node_rounds}
+use Rattle.pbs_edges.specs.inner.Rounds.{place_rounds, node_rounds}
 use Rattle.pbs_edges.proofs.Numbering.{numbered}
 use Rattle.pbs_edges.proofs.Rounds.{pair_parts, scope_parts}
 use Rattle.pbs_overlap.specs.Ranges.{number_of, leaves, ranges}

@@ -20,10 +20,10 @@ use Rattle.pbs_edges.proofs.Numbering.{is_numbered}
 use Rattle.pbs_overlap.specs.declared.ranges.ScopeRange.{ScopeRange}
 use Rattle.pbs_overlap.specs.declared.search.Plan.{Plan}
 use Rattle.pbs_overlap.specs.Ranges.{leaves, ranges}
-use Rattle.pbs_overlap.specs.Stepping.{IsStepBy}
-use Rattle.pbs_overlap.specs.Joints.{TellsJoint}
-use Rattle.pbs_overlap.specs.Search.{step_at, first_at}
-use Rattle.pbs_overlap.specs.Planning.{edge_at, no_edge, FromsRise, AreStepsOf, AreSplit, IsSplit, IsPlan}
+use Rattle.pbs_overlap.specs.inner.Stepping.{IsStepBy}
+use Rattle.pbs_overlap.specs.inner.Joints.{TellsJoint}
+use Rattle.pbs_overlap.specs.inner.Search.{step_at, first_at}
+use Rattle.pbs_overlap.specs.inner.Planning.{edge_at, no_edge, FromsRise, AreStepsOf, AreSplit, IsSplit, IsPlan}
 use Rattle.pbs_overlap.proofs.Leaves.{length-leaves, length-ranges}
 
 -- the default doesn't matter within a list

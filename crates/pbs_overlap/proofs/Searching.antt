@@ -7,8 +7,8 @@ use Rattle.std.proofs.lemmas.List.{length-replicate}
 use Rattle.std.proofs.lemmas.List.Sums.{count_by-le-length}
 use Rattle.pbs_overlap.specs.declared.search.Plan.{Plan}
 use Rattle.pbs_overlap.specs.declared.search.Reached.{Reached}
-use Rattle.pbs_overlap.specs.Search.{IsWork, Visits, Between, Marked, Leads, IsStart, reach_start, reach_next}
-use Rattle.pbs_overlap.specs.Search.{Searching, Searched}
+use Rattle.pbs_overlap.specs.inner.Search.{IsWork, Visits, Between, Marked, Leads, IsStart, reach_start, reach_next}
+use Rattle.pbs_overlap.specs.inner.Search.{Searching, Searched}
 
 count-none : (n : ℕ) → count_by (λ (b : Bool). b) (replicate n false) ≡ 0
 count-none zero = refl

@@ -10,17 +10,18 @@ use Rattle.pbs_ast.specs.Trees.{Tree}
 use Rattle.pbs_ast.specs.Sound.{visit_count, place_count, scopes_right}
 use Rattle.pbs_edges.specs.declared.edge.Edge.{Edge}
 use Rattle.pbs_edges.specs.Edges.{Round, Body, Trap, Among}
-use Rattle.pbs_edges.specs.Rounds.{place_rounds, node_rounds}
-use Rattle.pbs_edges.specs.ByNumber.{PlaceInBody, PlaceInTrap, NodeInBody, NodeInTrap, AbortsByNumber, EntersByNumber}
-use Rattle.pbs_edges.specs.ByNumber.{LeavesByNumber, AbortsAgreeByNumber}
+use Rattle.pbs_edges.specs.inner.Rounds.{place_rounds, node_rounds}
+use Rattle.pbs_edges.specs.inner.ByNumber.{PlaceInBody, PlaceInTrap, NodeInBody, NodeInTrap, AbortsByNumber}
+use Rattle.pbs_edges.specs.inner.ByNumber.{EntersByNumber}
+use Rattle.pbs_edges.specs.inner.ByNumber.{LeavesByNumber, AbortsAgreeByNumber}
 use Rattle.pbs_edges.proofs.Numbering.{IsNumbered}
 use Rattle.pbs_overlap.specs.declared.ranges.ScopeRange.{ScopeRange}
 use Rattle.pbs_overlap.specs.declared.steps.Region.{Region}
 use Rattle.pbs_overlap.specs.declared.steps.Step.{Step}
 use Rattle.pbs_overlap.specs.Ranges.{leaves, ranges}
-use Rattle.pbs_overlap.specs.Steps.{is_within, aborts_range, enters_range, IsAborted, IsEntered, is_region}
-use Rattle.pbs_overlap.specs.Steps.{aborts_scope, region_clash, clash, region_refused, refused_scope}
-use Rattle.pbs_overlap.specs.Stepping.{IsStep}
+use Rattle.pbs_overlap.specs.inner.Steps.{is_within, aborts_range, enters_range, IsAborted, IsEntered, is_region}
+use Rattle.pbs_overlap.specs.inner.Steps.{aborts_scope, region_clash, clash, region_refused, refused_scope}
+use Rattle.pbs_overlap.specs.inner.Stepping.{IsStep}
 use Rattle.pbs_overlap.proofs.Leaves.{at_leaf}
 use Rattle.pbs_overlap.proofs.Around.{Within, Inside, inside_from_round, round_from_inside, range_within}
 use Rattle.pbs_overlap.proofs.Laminar.{nested}

@@ -14,7 +14,7 @@ use Rattle.pbs_edges.specs.declared.edge.Edges.{Edges}
 use Rattle.pbs_edges.specs.Listed.{first_places, follow_edges}
 use Rattle.pbs_edges.specs.Found.{AreEdges}
 use Rattle.pbs_edges.specs.Walks.{Reaches, Together, IsRefused}
-use Rattle.pbs_edges.specs.ByNumber.{Fits, NodeInBody, EntersByNumber, AbortsAgreeByNumber}
+use Rattle.pbs_edges.specs.inner.ByNumber.{Fits, NodeInBody, EntersByNumber, AbortsAgreeByNumber}
 use Rattle.pbs_edges.proofs.Numbering.{IsNumbered}
 use Rattle.pbs_edges.proofs.Listed.{OneOf, listed_first, follow_listed}
 use Rattle.pbs_edges.proofs.Closure.{reaches_from_together}
@@ -22,13 +22,14 @@ use Rattle.pbs_edges.proofs.Joint.{reaches_begin, reaches_next, reaches_all, ref
 use Rattle.pbs_overlap.specs.declared.search.Plan.{Plan}
 use Rattle.pbs_overlap.specs.declared.search.Reached.{Reached}
 use Rattle.pbs_overlap.specs.declared.steps.Step.{Step}
-use Rattle.pbs_overlap.specs.Steps.{clash, refused_scope}
-use Rattle.pbs_overlap.specs.Stepping.{IsStep}
-use Rattle.pbs_overlap.specs.Joints.{joint_at}
-use Rattle.pbs_overlap.specs.Planning.{edge_at, IsPlan}
-use Rattle.pbs_overlap.specs.Search.{step_at, fit_at, first_at, marked_at, Between, Marked, Taken, TakenFrom, Leads}
-use Rattle.pbs_overlap.specs.Search.{Reach, reach_start, reach_next, Searched}
-use Rattle.pbs_overlap.specs.Lowest.{IsLowest, refused_at, RefusesWith}
+use Rattle.pbs_overlap.specs.inner.Steps.{clash, refused_scope}
+use Rattle.pbs_overlap.specs.inner.Stepping.{IsStep}
+use Rattle.pbs_overlap.specs.inner.Joints.{joint_at}
+use Rattle.pbs_overlap.specs.inner.Planning.{edge_at, IsPlan}
+use Rattle.pbs_overlap.specs.inner.Search.{step_at, fit_at, first_at, marked_at, Between, Marked, Taken, TakenFrom}
+use Rattle.pbs_overlap.specs.inner.Search.{Leads}
+use Rattle.pbs_overlap.specs.inner.Search.{Reach, reach_start, reach_next, Searched}
+use Rattle.pbs_overlap.specs.inner.Lowest.{IsLowest, refused_at, RefusesWith}
 use Rattle.pbs_overlap.specs.declared.ranges.ScopeRange.{ScopeRange}
 use Rattle.pbs_overlap.specs.Ranges.{ranges}
 use Rattle.pbs_overlap.specs.declared.pairs.Pairs.{Pairs}

@@ -8,7 +8,7 @@ use Rattle.std.proofs.lemmas.Bool.{cases_eq, cases_lt}
 use Rattle.std.proofs.lemmas.List.{get_or_push, get_or-set_same, get_or-set_other, get_or_append_left}
 use Rattle.std.proofs.lemmas.List.Sums.{sum_by-set}
 use Rattle.pbs_overlap.specs.declared.search.Reached.{Reached}
-use Rattle.pbs_overlap.specs.Search.{IsWork, Visits, Between, Marked}
+use Rattle.pbs_overlap.specs.inner.Search.{IsWork, Visits, Between, Marked}
 
 count-set : (marks : List Bool) (i : ℕ) → i < length marks → get_or marks i false ≡ false
     → count_by (λ b. b) (set marks i true) ≡ count_by (λ b. b) marks + 1

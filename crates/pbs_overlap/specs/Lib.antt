@@ -1,8 +1,3 @@
 pub mod Ranges
-pub mod Steps
-pub mod Stepping
-pub mod Joints
-pub mod Search
-pub mod Lowest
-pub mod Planning
+pub mod inner
 pub mod Told

@@ -3,7 +3,7 @@ ghost use Rattle.std.specs.Prelude.{◌≡◌, IfErr, IfOk};
 ghost use Rattle.pbs_ast.specs.Trees.{tree_of};
 ghost use Rattle.pbs_edges.specs.Found.{AreEdges};
 ghost use Rattle.pbs_overlap.specs.Ranges.{ranges};
-ghost use Rattle.pbs_overlap.specs.Planning.{IsPlan};
+ghost use Rattle.pbs_overlap.specs.inner.Planning.{IsPlan};
 ghost use Rattle.pbs_overlap.specs.Told.{IsAccepted, IsOverlapCause, TellsTogether};
 
 use crate::fail::OverlapFail;

@@ -5,7 +5,7 @@ ghost use Rattle.bool_bdd.specs.Diagrams.{IsNode};
 ghost use Rattle.pbs_ast.specs.Trees.{tree_of};
 ghost use Rattle.pbs_ast.specs.Sound.{place_count};
 ghost use Rattle.pbs_edges.specs.Found.{HasFewTerms};
-ghost use Rattle.pbs_overlap.specs.Joints.{joint_at, AllInputsBelow, AllNodes, AreNodes, AreTold, TellsJoint};
+ghost use Rattle.pbs_overlap.specs.inner.Joints.{joint_at, AllInputsBelow, AllNodes, AreNodes, AreTold, TellsJoint};
 
 use bool_bdd::{Node, Store};
 use bool_terms::Term;

@@ -1,8 +1,8 @@
 // The lowest scope that a joint step refuses.
 ghost use Rattle.std.specs.Prelude.{◌≡◌, ℕ, ◌≤◌, ◌<◌, ◌*◌, ◌&&◌, length, vec_len};
-ghost use Rattle.pbs_overlap.specs.Joints.{joint_at};
-ghost use Rattle.pbs_overlap.specs.Search.{marked_at, Between, EachFromBelow, IsShaped};
-ghost use Rattle.pbs_overlap.specs.Lowest.{lower_of, refused_at, IsLowest, RefusesWith};
+ghost use Rattle.pbs_overlap.specs.inner.Joints.{joint_at};
+ghost use Rattle.pbs_overlap.specs.inner.Search.{marked_at, Between, EachFromBelow, IsShaped};
+ghost use Rattle.pbs_overlap.specs.inner.Lowest.{lower_of, refused_at, IsLowest, RefusesWith};
 
 use crate::search::{Plan, Reached};
 

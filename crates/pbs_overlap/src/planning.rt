@@ -4,8 +4,8 @@ ghost use Rattle.pbs_ast.specs.Trees.{tree_of};
 ghost use Rattle.pbs_ast.specs.Sound.{place_count};
 ghost use Rattle.pbs_edges.specs.Found.{AreEdges};
 ghost use Rattle.pbs_overlap.specs.Ranges.{ranges};
-ghost use Rattle.pbs_overlap.specs.Planning.{edge_at, AreSplit, AreStepsOf, FromsRise, IsPlan, IsSplit};
-ghost use Rattle.pbs_overlap.specs.Stepping.{IsStepBy};
+ghost use Rattle.pbs_overlap.specs.inner.Planning.{edge_at, AreSplit, AreStepsOf, FromsRise, IsPlan, IsSplit};
+ghost use Rattle.pbs_overlap.specs.inner.Stepping.{IsStepBy};
 
 use crate::joint::joint_terms;
 use crate::ranges::{ScopeRange, push_leaves};

@@ -1,7 +1,7 @@
 // A search for the pairs of places that double walks end in. The pair of p and q is the cell p * places + q of a table.
 ghost use Rattle.std.specs.Prelude.{◌≡◌, ℕ, ◌≤◌, ◌<◌, ◌+◌, ◌*◌, ◌/◌, ◌%◌, length, vec_len, OnOk, IfOk};
-ghost use Rattle.pbs_overlap.specs.Search.{first_at, fit_at, EachBelow, IsShaped, IsWork, Leads};
-ghost use Rattle.pbs_overlap.specs.Search.{Between, IsStart, Searched, Taken, TakenFrom, Visits};
+ghost use Rattle.pbs_overlap.specs.inner.Search.{first_at, fit_at, EachBelow, IsShaped, IsWork, Leads};
+ghost use Rattle.pbs_overlap.specs.inner.Search.{Between, IsStart, Searched, Taken, TakenFrom, Visits};
 
 use crate::joint::JointTerms;
 use crate::steps::Step;

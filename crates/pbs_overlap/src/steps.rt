@@ -1,7 +1,8 @@
 // Follow edges with what they abort and enter.
 ghost use Rattle.std.specs.Prelude.{◌≡◌, ◌≤◌, length};
-ghost use Rattle.pbs_overlap.specs.Steps.{aborts_range, clash, enters_range, is_within, refused_scope, aborts_scope};
-ghost use Rattle.pbs_overlap.specs.Steps.{IsAborted, IsEntered};
+ghost use Rattle.pbs_overlap.specs.inner.Steps.{aborts_range, clash, enters_range, is_within, refused_scope};
+ghost use Rattle.pbs_overlap.specs.inner.Steps.{aborts_scope};
+ghost use Rattle.pbs_overlap.specs.inner.Steps.{IsAborted, IsEntered};
 
 use crate::ranges::ScopeRange;
 

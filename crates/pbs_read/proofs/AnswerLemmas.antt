@@ -10,7 +10,7 @@ use Rattle.pbs_text.specs.Bare.{bare}
 use Rattle.pbs_text.specs.Lexing.{tokens}
 use Rattle.pbs_text.specs.Refusals.{Says}
 use Rattle.pbs_lex.specs.Stops.{StopsLexing}
-use Rattle.pbs_read.specs.TextDescent.{ReadsText, StopsText}
+use Rattle.pbs_read.specs.inner.TextDescent.{ReadsText, StopsText}
 use Rattle.pbs_text.specs.Answers.{IsShort, StandsFor, IsRefusedBy, ByToken, ByGrammar, Refuses}
 use Rattle.pbs_text.specs.Answers.{IsThe}
 use Rattle.pbs_grammar.proofs.Exact.{reading_says}

@@ -9,10 +9,10 @@ use Rattle.pbs_text.specs.declared.fail.ReadSpec.TheVariants.{Memory, Refused}
 use Rattle.pbs_text.specs.Trees.{width_value, word_at, declared, input_of, inputs_of, names_of}
 use Rattle.pbs_text.specs.places.Reading.{stepped, bind, read}
 use Rattle.pbs_descent.specs.Descent.{BeginsWith, NoFront, front_refusal, behind_expr, ReadsExpr, StopsExpr}
-use Rattle.pbs_read.specs.DeclDescent.{TakesBit, ReadsWidth, StopsWidth, ReadsInput}
-use Rattle.pbs_read.specs.DeclDescent.{ReadsSet, ReadsSets}
-use Rattle.pbs_read.specs.DeclDescent.{ReadsLevelHead, ReadsLevel, ReadsProd}
-use Rattle.pbs_read.specs.DeclDescent.{ReadsRightSide, StopsRightSide, StopsProd}
+use Rattle.pbs_read.specs.inner.DeclDescent.{TakesBit, ReadsWidth, StopsWidth, ReadsInput}
+use Rattle.pbs_read.specs.inner.DeclDescent.{ReadsSet, ReadsSets}
+use Rattle.pbs_read.specs.inner.DeclDescent.{ReadsLevelHead, ReadsLevel, ReadsProd}
+use Rattle.pbs_read.specs.inner.DeclDescent.{ReadsRightSide, StopsRightSide, StopsProd}
 use Rattle.pbs_text.specs.Grammar.{token, Second, bit_kind, Width, OneBit, TwoBits, MoreBits, width_kind, ExprPhrase}
 use Rattle.pbs_text.specs.Grammar.{OneSeq, MoreSeqs, OneItem, MoreItems, OneWire, Bus, InputsPhrase}
 use Rattle.pbs_text.specs.Grammar.{OneInput, MoreInputs, NamesPhrase, OneName, MoreNames, SetsPhrase}

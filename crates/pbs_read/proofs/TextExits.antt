@@ -9,11 +9,11 @@ use Rattle.pbs_text.specs.places.Reading.{stepped, bind, read}
 use Rattle.pbs_descent.specs.Descent.{BeginsWith, NoFront, front_refusal}
 use Rattle.pbs_text.specs.Bare.{bare_prod}
 use Rattle.pbs_text.specs.Trees.{Declared, with_decl}
-use Rattle.pbs_read.specs.DeclDescent.{ReadsInputs, ReadsNames}
-use Rattle.pbs_read.specs.DeclDescent.{ReadsLevel, ReadsRightSide, StopsRightSide, ReadsProd}
-use Rattle.pbs_read.specs.TextDescent.{bare_lists, made_spec, decl_word, decl_kind, behind_word}
-use Rattle.pbs_read.specs.TextDescent.{ReadsVersion, StopsVersion, TakesDeclWord, ReadsDecl, StopsDecl}
-use Rattle.pbs_read.specs.TextDescent.{ReadsDecls, StopsDecls, ReadsMain, StopsMain, ReadsText}
+use Rattle.pbs_read.specs.inner.DeclDescent.{ReadsInputs, ReadsNames}
+use Rattle.pbs_read.specs.inner.DeclDescent.{ReadsLevel, ReadsRightSide, StopsRightSide, ReadsProd}
+use Rattle.pbs_read.specs.inner.TextDescent.{bare_lists, made_spec, decl_word, decl_kind, behind_word}
+use Rattle.pbs_read.specs.inner.TextDescent.{ReadsVersion, StopsVersion, TakesDeclWord, ReadsDecl, StopsDecl}
+use Rattle.pbs_read.specs.inner.TextDescent.{ReadsDecls, StopsDecls, ReadsMain, StopsMain, ReadsText}
 use Rattle.pbs_text.specs.Grammar.{token, version_kind, InputDecl}
 use Rattle.pbs_text.specs.Grammar.{ActionDecl, LevelDecl, ProdDecl, DeclsPhrase, MoreDecls, OfVersion}
 use Rattle.pbs_text.specs.Holes.{Front}

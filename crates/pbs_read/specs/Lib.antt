@@ -1,2 +1,1 @@
-pub mod DeclDescent
-pub mod TextDescent
+pub mod inner

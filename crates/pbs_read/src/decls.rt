@@ -6,10 +6,10 @@ ghost use Rattle.pbs_text.specs.Grammar.{token};
 ghost use Rattle.pbs_text.specs.places.Steps.{bit_of, width_of};
 ghost use Rattle.pbs_text.specs.Trees.{width_value, declared};
 ghost use Rattle.pbs_descent.specs.Descent.{NoFront, BeginsWith, front_refusal};
-ghost use Rattle.pbs_read.specs.DeclDescent.{TakesBit, ReadsWidth, StopsWidth, ReadsInput, StopsInput};
-ghost use Rattle.pbs_read.specs.DeclDescent.{ReadsInputs, StopsInputs, ReadsNames, StopsNames, ReadsSet};
-ghost use Rattle.pbs_read.specs.DeclDescent.{StopsSet, ReadsSets, StopsSets, ReadsLevelHead, StopsLevel};
-ghost use Rattle.pbs_read.specs.DeclDescent.{ReadsLevel, ReadsRightSide, StopsRightSide, ReadsProd, StopsProd};
+ghost use Rattle.pbs_read.specs.inner.DeclDescent.{TakesBit, ReadsWidth, StopsWidth, ReadsInput, StopsInput};
+ghost use Rattle.pbs_read.specs.inner.DeclDescent.{ReadsInputs, StopsInputs, ReadsNames, StopsNames, ReadsSet};
+ghost use Rattle.pbs_read.specs.inner.DeclDescent.{StopsSet, ReadsSets, StopsSets, ReadsLevelHead, StopsLevel};
+ghost use Rattle.pbs_read.specs.inner.DeclDescent.{ReadsLevel, ReadsRightSide, StopsRightSide, ReadsProd, StopsProd};
 ghost use Rattle.pbs_text.specs.declared.token.TokenKind.TheVariants.{Name};
 
 use pbs_ast::{Decl, Decls, Expr, Level, Prod, Set, Sets};

@@ -10,9 +10,9 @@ ghost use Rattle.pbs_text.specs.Refusals.{refusal};
 ghost use Rattle.pbs_text.specs.places.Steps.{version_of};
 ghost use Rattle.pbs_text.specs.Trees.{text_spec};
 ghost use Rattle.pbs_descent.specs.Descent.{NoFront, front_refusal};
-ghost use Rattle.pbs_read.specs.TextDescent.{bare_lists, nothing_yet, made_spec, decl_word, ReadsVersion};
-ghost use Rattle.pbs_read.specs.TextDescent.{StopsVersion, TakesDeclWord, ReadsDecl, StopsDecl, ReadsDecls};
-ghost use Rattle.pbs_read.specs.TextDescent.{StopsDecls, ReadsMain, StopsMain, ReadsText, StopsText};
+ghost use Rattle.pbs_read.specs.inner.TextDescent.{bare_lists, nothing_yet, made_spec, decl_word, ReadsVersion};
+ghost use Rattle.pbs_read.specs.inner.TextDescent.{StopsVersion, TakesDeclWord, ReadsDecl, StopsDecl, ReadsDecls};
+ghost use Rattle.pbs_read.specs.inner.TextDescent.{StopsDecls, ReadsMain, StopsMain, ReadsText, StopsText};
 ghost use Rattle.pbs_text.specs.Answers.{StandsFor, IsRefusedBy, Answers, Refuses, IsThe};
 
 use crate::decls::{inputs, level, names, prod, right_side};

@@ -1,3 +1,3 @@
 pub mod Lines
 pub mod Verdicts
-pub mod Texts
+pub mod inner

@@ -1,6 +1,6 @@
 // Lines of text: docs/ROWS.md, "Text lines".
 ghost use Rattle.std.specs.Prelude.{◌≡◌, ◌≤◌, ◌++◌, length, slice_range, OnOk};
-ghost use Rattle.row_files.specs.Texts.{times};
+ghost use Rattle.row_files.specs.inner.Texts.{times};
 
 use crate::fail::LineFail;
 use crate::numbers::{count, hex_byte};

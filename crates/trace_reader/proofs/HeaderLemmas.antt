@@ -7,9 +7,9 @@ use Rattle.std.proofs.lemmas.List.{drop_all}
 use Rattle.std.proofs.lemmas.List.Folds.{list_any-append}
 use Rattle.trace_reader.specs.Traces.{bare, first_line, lines, onto_first, refused, rows}
 use Rattle.trace_reader.specs.Headers.{NoHeader, Refusing, Traced, headed, header, header_order, trace, trace_of}
-use Rattle.trace_reader.specs.Names.{IsFront}
+use Rattle.trace_reader.specs.inner.Names.{IsFront}
 use Rattle.trace_reader.specs.States.{IsInHeader, ReaderState, ReadsHead, UsedByHead, has_newline, head_then, state_of}
-use Rattle.trace_reader.specs.Calls.{EndsHeader, IsVerdict, line_then}
+use Rattle.trace_reader.specs.inner.Calls.{EndsHeader, IsVerdict, line_then}
 use Rattle.trace_reader.specs.declared.answers.Phase.TheVariants as phase
 use Rattle.trace_reader.specs.declared.answers.Head.{Head}
 use Rattle.trace_reader.specs.declared.answers.Head.TheVariants as head

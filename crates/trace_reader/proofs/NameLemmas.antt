@@ -8,7 +8,7 @@ use Rattle.std.proofs.lemmas.Bool.Decides.{nat_tests}
 use Rattle.std.specs.Prelude.{if◌then◌else◌}
 use Rattle.trace_reader.specs.Traces.{onto_first, refused}
 use Rattle.trace_reader.specs.Headers.{Order, Refusing, is_known, names_order, port_of, with_port, words}
-use Rattle.trace_reader.specs.Names.{FindsPort, IsFront, has_byte, length_behind, words_behind}
+use Rattle.trace_reader.specs.inner.Names.{FindsPort, IsFront, has_byte, length_behind, words_behind}
 use Rattle.trace_reader.specs.Steps.{ArePorts}
 
 either_first : (a b : Bool) → (a || b) ≡ false → a ≡ false

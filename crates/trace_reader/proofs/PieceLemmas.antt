@@ -7,7 +7,7 @@ use Rattle.trace_reader.specs.Traces.{first_line}
 use Rattle.trace_reader.specs.States.{BegunAfter, EndsLine, IsLineEnd}
 use Rattle.trace_reader.specs.States.{IsInRow, IsUsed, ReaderState, ReadsRow, UsedByRow, has_newline, row_then}
 use Rattle.trace_reader.specs.States.{rows_from}
-use Rattle.trace_reader.specs.Calls.{ByteFor, EndsText, IsAnswer, TakesByte}
+use Rattle.trace_reader.specs.inner.Calls.{ByteFor, EndsText, IsAnswer, TakesByte}
 use Rattle.trace_reader.specs.declared.answers.Phase.TheVariants as phase
 use Rattle.trace_reader.specs.declared.answers.Row.{Row}
 use Rattle.trace_reader.specs.declared.answers.Row.TheVariants as answer

@@ -7,7 +7,7 @@ use Rattle.pbs_base.specs.declared.entry.Entry.TheVariants as entries
 use Rattle.trace_reader.specs.Traces.{Good, Wrong, entry, followed, lines, no_rows, refused, right, rows, Rows}
 use Rattle.trace_reader.specs.Steps.{whole, Wants}
 use Rattle.trace_reader.specs.States.{BegunAfter, IsInRow, ReaderState, row_then, state_of, row_phase}
-use Rattle.trace_reader.specs.Calls.{ByteFor, EndsText, IsAnswer, TakesByte, row_of}
+use Rattle.trace_reader.specs.inner.Calls.{ByteFor, EndsText, IsAnswer, TakesByte, row_of}
 use Rattle.trace_reader.specs.declared.answers.Phase.TheVariants as phase
 use Rattle.trace_reader.specs.declared.answers.Row.{Row}
 use Rattle.trace_reader.specs.declared.answers.Row.TheVariants as answer

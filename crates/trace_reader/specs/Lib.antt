@@ -2,5 +2,4 @@ pub mod Traces
 pub mod Headers
 pub mod States
 pub mod Steps
-pub mod Calls
-pub mod Names
+pub mod inner

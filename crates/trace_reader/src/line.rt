@@ -2,7 +2,7 @@
 ghost use Rattle.std.specs.Prelude.{[], ◌≡◌, length};
 ghost use Rattle.trace_reader.specs.Traces.{entry, is_digit, right, vector};
 ghost use Rattle.trace_reader.specs.Steps.{ArePorts, Wants, whole};
-ghost use Rattle.trace_reader.specs.Calls.{row_of};
+ghost use Rattle.trace_reader.specs.inner.Calls.{row_of};
 
 use crate::Row;
 

@@ -2,7 +2,7 @@
 ghost use Rattle.std.specs.Prelude.{◌≡◌, ◌+◌, ◌≤◌, ◌<◌, ◌^◌, [], ◌∷◌, length, IfOk};
 ghost use Rattle.std.specs.List.{list_all};
 ghost use Rattle.trace_reader.specs.Headers.{header_order, is_name, names_order, words};
-ghost use Rattle.trace_reader.specs.Names.{FindsPort, Gives, IsFront, length_behind, words_behind};
+ghost use Rattle.trace_reader.specs.inner.Names.{FindsPort, Gives, IsFront, length_behind, words_behind};
 ghost use Rattle.trace_reader.specs.Traces.{refused};
 
 use pbs_base::{Memory, Names, Refusal, Span, Subject, Word};

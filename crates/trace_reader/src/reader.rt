@@ -1,6 +1,6 @@
 // The reader of a trace.
 ghost use Rattle.std.specs.Prelude.{◌≡◌, ◌+◌, ◌<◌, ◌≤◌, ◌^◌, ◌++◌, [], ◌∷◌, length, nat_eq, false, IfOk, OnOk};
-ghost use Rattle.trace_reader.specs.Calls.{EndsHeader, EndsText, TakesByte, row_of};
+ghost use Rattle.trace_reader.specs.inner.Calls.{EndsHeader, EndsText, TakesByte, row_of};
 ghost use Rattle.trace_reader.specs.States.{IsInHeader, IsInRow, ReadsHead, ReadsRow, has_newline, start, state_of};
 ghost use Rattle.trace_reader.specs.Steps.{Wants, whole};
 ghost use Rattle.trace_reader.specs.Traces.{entry, refused, right};

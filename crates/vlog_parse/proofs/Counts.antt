@@ -17,11 +17,13 @@ use Rattle.vlog_text.specs.declared.token.Piece.TheVariants.{Gap, Whole, Fault}
 use Rattle.vlog_text.specs.Grammar.{UnitPhrase, Negated, Bracketed, Lone, AndPhrase, OneUnit, MoreUnits, XorPhrase}
 use Rattle.vlog_text.specs.Grammar.{OneAnd, MoreAnds, OrPhrase, OneXor, MoreXors, unit_tokens, and_tokens, xor_tokens}
 use Rattle.vlog_text.specs.Grammar.{or_tokens, ItemPhrase, Declare, ManyGate, SingleGate, Assign, Always, item_tokens}
-use Rattle.vlog_text.specs.Grammar.{ItemsPhrase, NoItems, MoreItems, items_tokens, TextPhrase, names_tokens, text_tokens}
+use Rattle.vlog_text.specs.Grammar.{ItemsPhrase, NoItems, MoreItems, items_tokens, TextPhrase, names_tokens}
+use Rattle.vlog_text.specs.Grammar.{text_tokens}
 use Rattle.vlog_text.specs.Grammar.{token}
 use Rattle.vlog_text.specs.Lexing.{first_piece, lex, tokens, with_token, with_piece}
 use Rattle.vlog_text.specs.Reading.{IsRead}
-use Rattle.vlog_text.specs.Trees.{Parts, parts, joined, unit_part, and_parts, xor_parts, or_parts, driving, assign_gates}
+use Rattle.vlog_text.specs.Trees.{Parts, parts, joined, unit_part, and_parts, xor_parts, or_parts, driving}
+use Rattle.vlog_text.specs.Trees.{assign_gates}
 use Rattle.vlog_text.specs.Trees.{Found, with_item, found_in, raw_of, gate_of, name_of, operand_of, operands_of}
 
 -- ---- tokens

@@ -14,18 +14,23 @@ use Rattle.vlog_text.specs.declared.token.TokenKind.TheVariants.{OpenRound, Clos
 use Rattle.vlog_text.specs.declared.token.TokenKind.TheVariants.{Ampersand, Caret, Bar, At, Arrow}
 use Rattle.vlog_text.specs.Grammar.{UnitPhrase, Negated, Bracketed, Lone, AndPhrase, XorPhrase, OrPhrase, unit_depth}
 use Rattle.vlog_text.specs.Grammar.{and_depth, xor_depth, or_depth, items_depth, is_single, NamePhrase, OperandPhrase}
-use Rattle.vlog_parse.specs.Places.{Head, OrHole, OfAssign, InRound, XorHole, FirstXor, NextXor, AndHole, FirstAnd}
-use Rattle.vlog_parse.specs.Places.{NextAnd, UnitHole, FirstUnit, NextUnit, UnderNot, PortHole, FirstPort, NextPort}
-use Rattle.vlog_parse.specs.Places.{DeclHole, FirstDecl, NextDecl, PinFront, Place, Start, AfterModule}
-use Rattle.vlog_parse.specs.Places.{AfterTitle, WantsPort, AfterPort, AfterPorts, InItems, WantsName, AfterName}
-use Rattle.vlog_parse.specs.Places.{AfterGateWord, AfterInstance, WantsTarget, AfterTarget, WantsPin, WantsNextPin}
-use Rattle.vlog_parse.specs.Places.{AfterPins, AfterPin, AfterManyGate, AfterSingleGate, AfterAssign, AfterAssigned}
-use Rattle.vlog_parse.specs.Places.{WantsUnit, AfterUnit, AfterAlways, AfterAt, AfterClockOpen, AfterPosedge}
-use Rattle.vlog_parse.specs.Places.{AfterClock, AfterEdge, AfterRegister, AfterArrow, AfterTaken, Whole, or_nesting}
-use Rattle.vlog_parse.specs.Places.{xor_nesting, and_nesting, unit_nesting}
-use Rattle.vlog_parse.specs.Steps.{name_at, operand_at, single_or_many, with_port, with_name}
-use Rattle.vlog_parse.specs.Steps.{with_unit, and_hole, with_and, xor_hole, with_xor, start_item, with_arity}
-use Rattle.vlog_parse.specs.Steps.{start_unit, close_round, end_assign, end_unit, step, walk}
+use Rattle.vlog_parse.specs.inner.Places.{Head, OrHole, OfAssign, InRound, XorHole, FirstXor, NextXor, AndHole}
+use Rattle.vlog_parse.specs.inner.Places.{FirstAnd}
+use Rattle.vlog_parse.specs.inner.Places.{NextAnd, UnitHole, FirstUnit, NextUnit, UnderNot, PortHole, FirstPort}
+use Rattle.vlog_parse.specs.inner.Places.{NextPort}
+use Rattle.vlog_parse.specs.inner.Places.{DeclHole, FirstDecl, NextDecl, PinFront, Place, Start, AfterModule}
+use Rattle.vlog_parse.specs.inner.Places.{AfterTitle, WantsPort, AfterPort, AfterPorts, InItems, WantsName, AfterName}
+use Rattle.vlog_parse.specs.inner.Places.{AfterGateWord, AfterInstance, WantsTarget, AfterTarget, WantsPin}
+use Rattle.vlog_parse.specs.inner.Places.{WantsNextPin}
+use Rattle.vlog_parse.specs.inner.Places.{AfterPins, AfterPin, AfterManyGate, AfterSingleGate, AfterAssign}
+use Rattle.vlog_parse.specs.inner.Places.{AfterAssigned}
+use Rattle.vlog_parse.specs.inner.Places.{WantsUnit, AfterUnit, AfterAlways, AfterAt, AfterClockOpen, AfterPosedge}
+use Rattle.vlog_parse.specs.inner.Places.{AfterClock, AfterEdge, AfterRegister, AfterArrow, AfterTaken, Whole}
+use Rattle.vlog_parse.specs.inner.Places.{or_nesting}
+use Rattle.vlog_parse.specs.inner.Places.{xor_nesting, and_nesting, unit_nesting}
+use Rattle.vlog_parse.specs.inner.Steps.{name_at, operand_at, single_or_many, with_port, with_name}
+use Rattle.vlog_parse.specs.inner.Steps.{with_unit, and_hole, with_and, xor_hole, with_xor, start_item, with_arity}
+use Rattle.vlog_parse.specs.inner.Steps.{start_unit, close_round, end_assign, end_unit, step, walk}
 use Rattle.vlog_parse.proofs.Walks.{at_some}
 
 abbrev HeadShallow : Head → Type 0

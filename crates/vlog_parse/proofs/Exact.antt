@@ -10,8 +10,8 @@ use Rattle.vlog_text.specs.Grammar.{TextPhrase, IsText, Begins}
 use Rattle.vlog_text.specs.Reading.{IsRead, LeavesGrammar, AtToken, AtEnd}
 use Rattle.vlog_text.specs.Refusing.{refusal}
 use Rattle.vlog_parse.specs.Parsed.{IsUnreadable, ByLength, ByToken, ByGrammar}
-use Rattle.vlog_parse.specs.Places.{Place, Start, Whole}
-use Rattle.vlog_parse.specs.Steps.{step, walk}
+use Rattle.vlog_parse.specs.inner.Places.{Place, Start, Whole}
+use Rattle.vlog_parse.specs.inner.Steps.{step, walk}
 use Rattle.vlog_parse.proofs.Walks.{at_some, any, walk-before, walk-append}
 use Rattle.vlog_parse.proofs.Finishes.{finish}
 use Rattle.vlog_parse.proofs.Depths.{shallow_walk}

@@ -9,16 +9,21 @@ use Rattle.vlog_text.specs.declared.token.TokenKind.TheVariants.{PosedgeWord, Op
 use Rattle.vlog_text.specs.declared.token.TokenKind.TheVariants.{Equals, At, Arrow}
 use Rattle.vlog_text.specs.Grammar.{token, UnitPhrase, Negated, Bracketed, AndPhrase, is_single}
 use Rattle.vlog_text.specs.Grammar.{OperandPhrase, NamePhrase, TextPhrase}
-use Rattle.vlog_parse.specs.Places.{Head, OfAssign, InRound, FirstXor, NextXor, AndHole, FirstAnd, NextAnd, UnitHole}
-use Rattle.vlog_parse.specs.Places.{FirstUnit, NextUnit, UnderNot, PortHole, FirstPort, NextPort, DeclHole, FirstDecl}
-use Rattle.vlog_parse.specs.Places.{NextDecl, GateFront, PinFront, Edge, Place, Start, AfterModule, AfterTitle}
-use Rattle.vlog_parse.specs.Places.{WantsPort, AfterPort, AfterPorts, InItems, WantsName, AfterName, AfterGateWord}
-use Rattle.vlog_parse.specs.Places.{AfterInstance, WantsTarget, AfterTarget, WantsPin, WantsNextPin, AfterPins}
-use Rattle.vlog_parse.specs.Places.{AfterPin}
-use Rattle.vlog_parse.specs.Places.{AfterManyGate, AfterSingleGate, AfterAssign, AfterAssigned, WantsUnit, AfterUnit}
-use Rattle.vlog_parse.specs.Places.{AfterAlways, AfterAt, AfterClockOpen, AfterPosedge, AfterClock, AfterEdge}
-use Rattle.vlog_parse.specs.Places.{AfterRegister, AfterArrow, AfterTaken, Whole}
-use Rattle.vlog_parse.specs.Steps.{with_port, with_name, unit_hole, unit_and, with_arity, single_or_many, step, walk}
+use Rattle.vlog_parse.specs.inner.Places.{Head, OfAssign, InRound, FirstXor, NextXor, AndHole, FirstAnd, NextAnd}
+use Rattle.vlog_parse.specs.inner.Places.{UnitHole}
+use Rattle.vlog_parse.specs.inner.Places.{FirstUnit, NextUnit, UnderNot, PortHole, FirstPort, NextPort, DeclHole}
+use Rattle.vlog_parse.specs.inner.Places.{FirstDecl}
+use Rattle.vlog_parse.specs.inner.Places.{NextDecl, GateFront, PinFront, Edge, Place, Start, AfterModule, AfterTitle}
+use Rattle.vlog_parse.specs.inner.Places.{WantsPort, AfterPort, AfterPorts, InItems, WantsName, AfterName}
+use Rattle.vlog_parse.specs.inner.Places.{AfterGateWord}
+use Rattle.vlog_parse.specs.inner.Places.{AfterInstance, WantsTarget, AfterTarget, WantsPin, WantsNextPin, AfterPins}
+use Rattle.vlog_parse.specs.inner.Places.{AfterPin}
+use Rattle.vlog_parse.specs.inner.Places.{AfterManyGate, AfterSingleGate, AfterAssign, AfterAssigned, WantsUnit}
+use Rattle.vlog_parse.specs.inner.Places.{AfterUnit}
+use Rattle.vlog_parse.specs.inner.Places.{AfterAlways, AfterAt, AfterClockOpen, AfterPosedge, AfterClock, AfterEdge}
+use Rattle.vlog_parse.specs.inner.Places.{AfterRegister, AfterArrow, AfterTaken, Whole}
+use Rattle.vlog_parse.specs.inner.Steps.{with_port, with_name, unit_hole, unit_and, with_arity, single_or_many, step}
+use Rattle.vlog_parse.specs.inner.Steps.{walk}
 
 -- the place can be completed to a whole text
 abbrev pub Finishes : Place → Type 0

@@ -22,8 +22,8 @@ use Rattle.vlog_parse.specs.declared.state.Frame.{Frame}
 use Rattle.vlog_parse.specs.declared.state.Frame.TheVariants.{Negation, Bracket}
 use Rattle.vlog_parse.specs.declared.state.Part.{Part}
 use Rattle.vlog_parse.specs.declared.state.Part.TheVariants.{Pin, Made}
-use Rattle.vlog_parse.specs.Machine.{settled_pin, settled_gates, Held, made, joined_part, unwound, unwound_frames}
-use Rattle.vlog_parse.specs.Machine.{driven, with_part, and_held, xor_held, or_held}
+use Rattle.vlog_parse.specs.inner.Machine.{settled_pin, settled_gates, Held, made, joined_part, unwound, unwound_frames}
+use Rattle.vlog_parse.specs.inner.Machine.{driven, with_part, and_held, xor_held, or_held}
 
 -- ---- lists
 

@@ -34,11 +34,12 @@ use Rattle.vlog_parse.specs.declared.state.AssignState.TheVariants as of_assign
 use Rattle.vlog_parse.specs.declared.state.RegState.TheVariants as of_reg
 use Rattle.vlog_parse.specs.declared.state.State.{State}
 use Rattle.vlog_parse.specs.declared.state.State.TheVariants as state
-use Rattle.vlog_parse.specs.Steps.{name_at, operand_at}
-use Rattle.vlog_parse.specs.Machine.{Held, held, next, keeping, fixed_next, item_next, port_next}
-use Rattle.vlog_parse.specs.Machine.{first_pin, after_unit, closed_in, ended_in, lone_pin}
-use Rattle.vlog_parse.specs.Machine.{or_held}
-use Rattle.vlog_parse.specs.Machine.{and_held, xor_held, unwound, unit_next, part_next, IsFound, nothing, is_whole}
+use Rattle.vlog_parse.specs.inner.Steps.{name_at, operand_at}
+use Rattle.vlog_parse.specs.inner.Machine.{Held, held, next, keeping, fixed_next, item_next, port_next}
+use Rattle.vlog_parse.specs.inner.Machine.{first_pin, after_unit, closed_in, ended_in, lone_pin}
+use Rattle.vlog_parse.specs.inner.Machine.{or_held}
+use Rattle.vlog_parse.specs.inner.Machine.{and_held, xor_held, unwound, unit_next, part_next, IsFound, nothing}
+use Rattle.vlog_parse.specs.inner.Machine.{is_whole}
 use Rattle.vlog_parse.proofs.Fits.{each_of, AllFit, Driven, PinsFit, PartFit, LevelFit, FramesFit, HeldFit, settle_fit}
 use Rattle.vlog_parse.proofs.Fits.{put_fit, pins_wider, level_wider, frames_wider, and_fit, xor_fit, or_fit}
 use Rattle.vlog_parse.proofs.Fits.{unwound_fit}

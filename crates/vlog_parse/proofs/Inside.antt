@@ -21,14 +21,16 @@ use Rattle.vlog_parse.specs.declared.state.Part.TheVariants.{Pin}
 use Rattle.vlog_parse.specs.declared.state.AssignState.TheVariants as of_assign
 use Rattle.vlog_parse.specs.declared.state.State.{State}
 use Rattle.vlog_parse.specs.declared.state.State.TheVariants as state
-use Rattle.vlog_parse.specs.Places.{OrHole, OfAssign, InRound, XorHole, FirstXor, NextXor, AndHole, FirstAnd}
-use Rattle.vlog_parse.specs.Places.{NextAnd, UnitHole, FirstUnit, NextUnit, UnderNot, InItems, WantsUnit}
-use Rattle.vlog_parse.specs.Places.{unit_nesting}
-use Rattle.vlog_parse.specs.Steps.{operand_at, with_unit, unit_hole, unit_and, and_hole, with_and, xor_hole, with_xor}
-use Rattle.vlog_parse.specs.Steps.{with_item, deeper, start_unit, close_round, end_assign, end_unit}
-use Rattle.vlog_parse.specs.Machine.{settled_pin, settled_gates, Held, held, made, joined_part, with_part, unwound}
-use Rattle.vlog_parse.specs.Machine.{unwound_frames, after_unit, with_gates, lone_pin, unit_next, keeping}
-use Rattle.vlog_parse.specs.Machine.{closed_in, ended_in, part_next}
+use Rattle.vlog_parse.specs.inner.Places.{OrHole, OfAssign, InRound, XorHole, FirstXor, NextXor, AndHole, FirstAnd}
+use Rattle.vlog_parse.specs.inner.Places.{NextAnd, UnitHole, FirstUnit, NextUnit, UnderNot, InItems, WantsUnit}
+use Rattle.vlog_parse.specs.inner.Places.{unit_nesting}
+use Rattle.vlog_parse.specs.inner.Steps.{operand_at, with_unit, unit_hole, unit_and, and_hole, with_and, xor_hole}
+use Rattle.vlog_parse.specs.inner.Steps.{with_xor}
+use Rattle.vlog_parse.specs.inner.Steps.{with_item, deeper, start_unit, close_round, end_assign, end_unit}
+use Rattle.vlog_parse.specs.inner.Machine.{settled_pin, settled_gates, Held, held, made, joined_part, with_part}
+use Rattle.vlog_parse.specs.inner.Machine.{unwound}
+use Rattle.vlog_parse.specs.inner.Machine.{unwound_frames, after_unit, with_gates, lone_pin, unit_next, keeping}
+use Rattle.vlog_parse.specs.inner.Machine.{closed_in, ended_in, part_next}
 use Rattle.vlog_parse.proofs.Standing.{Aim, or_aim, xor_aim, and_aim, unit_aim, or_gates, xor_gates, and_gates}
 use Rattle.vlog_parse.proofs.Standing.{unit_gates, xor_ors, and_xors, unit_ands, and_level, unit_level, or_frames}
 use Rattle.vlog_parse.proofs.Standing.{xor_frames, and_frames, unit_frames, found_at, aim_found, aimed, IsHeld, AndHeld}

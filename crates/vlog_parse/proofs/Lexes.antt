@@ -7,7 +7,7 @@ use Rattle.vlog_text.specs.declared.token.TokenKind.{TokenKind}
 use Rattle.vlog_text.specs.declared.token.Piece.TheVariants.{Gap, Whole, Fault}
 use Rattle.vlog_text.specs.Grammar.{token}
 use Rattle.vlog_text.specs.Lexing.{first_piece, lex, with_token, with_piece}
-use Rattle.vlog_parse.specs.Lexing.{with_front, IsWithin}
+use Rattle.vlog_parse.specs.inner.Lexing.{with_front, IsWithin}
 
 -- passing over bytes
 lex-skip : (n at : ℕ) (bs : List ℕ) → n ≤ length bs → lex n at bs ≡ lex 0 (at + n) (drop n bs)

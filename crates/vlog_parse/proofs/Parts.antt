@@ -13,7 +13,7 @@ use Rattle.vlog_text.specs.Trees.{Parts, parts, gate_of, with_gate, joined, besi
 use Rattle.vlog_text.specs.Trees.{or_parts, driving}
 use Rattle.vlog_parse.specs.declared.state.Part.{Part}
 use Rattle.vlog_parse.specs.declared.state.Part.TheVariants.{Pin, Made}
-use Rattle.vlog_parse.specs.Machine.{settled_pin, settled_gates, held, made, joined_part, driven}
+use Rattle.vlog_parse.specs.inner.Machine.{settled_pin, settled_gates, held, made, joined_part, driven}
 use Rattle.vlog_parse.proofs.Standing.{IsLone, shown, IsHeld}
 
 pub settled-append : (part : Part) (a b : List RawGate) → settled_gates part (a ++ b) ≡ a ++ settled_gates part b

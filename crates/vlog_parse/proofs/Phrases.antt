@@ -24,18 +24,20 @@ use Rattle.vlog_text.specs.Grammar.{Unnamed, Instance, is_single, ItemPhrase, De
 use Rattle.vlog_text.specs.Grammar.{Always, ItemsPhrase, NoItems, MoreItems, TextPhrase, names_tokens, operands_tokens}
 use Rattle.vlog_text.specs.Grammar.{instance_tokens, item_tokens, items_tokens, text_tokens, item_depth}
 use Rattle.vlog_text.specs.Grammar.{items_depth}
-use Rattle.vlog_parse.specs.Places.{Title, Head, OrHole, OfAssign, InRound, XorHole, FirstXor, NextXor, AndHole}
-use Rattle.vlog_parse.specs.Places.{FirstAnd, NextAnd, UnitHole, FirstUnit, NextUnit, UnderNot, FirstPort, NextPort}
-use Rattle.vlog_parse.specs.Places.{FirstDecl, NextDecl, PinFront, Place, Start, AfterModule, AfterTitle}
-use Rattle.vlog_parse.specs.Places.{WantsPort, AfterPort, InItems, WantsName, AfterName, AfterGateWord, AfterInstance}
-use Rattle.vlog_parse.specs.Places.{WantsTarget, AfterTarget, WantsPin, WantsNextPin, AfterPins, AfterAssign}
-use Rattle.vlog_parse.specs.Places.{AfterAssigned, AfterRegister}
-use Rattle.vlog_parse.specs.Places.{WantsUnit, AfterUnit, AfterEdge, AfterArrow, AfterTaken, Whole, or_nesting}
-use Rattle.vlog_parse.specs.Places.{xor_nesting, and_nesting, unit_nesting}
-use Rattle.vlog_parse.specs.Steps.{name_at, operand_at, single_or_many, with_port, with_name, with_item}
-use Rattle.vlog_parse.specs.Steps.{with_unit, titled}
-use Rattle.vlog_parse.specs.Steps.{gate_front, pin_front, edge, with_arity, with_pin, close_round, end_assign}
-use Rattle.vlog_parse.specs.Steps.{step, walk}
+use Rattle.vlog_parse.specs.inner.Places.{Title, Head, OrHole, OfAssign, InRound, XorHole, FirstXor, NextXor, AndHole}
+use Rattle.vlog_parse.specs.inner.Places.{FirstAnd, NextAnd, UnitHole, FirstUnit, NextUnit, UnderNot, FirstPort}
+use Rattle.vlog_parse.specs.inner.Places.{NextPort}
+use Rattle.vlog_parse.specs.inner.Places.{FirstDecl, NextDecl, PinFront, Place, Start, AfterModule, AfterTitle}
+use Rattle.vlog_parse.specs.inner.Places.{WantsPort, AfterPort, InItems, WantsName, AfterName, AfterGateWord}
+use Rattle.vlog_parse.specs.inner.Places.{AfterInstance}
+use Rattle.vlog_parse.specs.inner.Places.{WantsTarget, AfterTarget, WantsPin, WantsNextPin, AfterPins, AfterAssign}
+use Rattle.vlog_parse.specs.inner.Places.{AfterAssigned, AfterRegister}
+use Rattle.vlog_parse.specs.inner.Places.{WantsUnit, AfterUnit, AfterEdge, AfterArrow, AfterTaken, Whole, or_nesting}
+use Rattle.vlog_parse.specs.inner.Places.{xor_nesting, and_nesting, unit_nesting}
+use Rattle.vlog_parse.specs.inner.Steps.{name_at, operand_at, single_or_many, with_port, with_name, with_item}
+use Rattle.vlog_parse.specs.inner.Steps.{with_unit, titled}
+use Rattle.vlog_parse.specs.inner.Steps.{gate_front, pin_front, edge, with_arity, with_pin, close_round, end_assign}
+use Rattle.vlog_parse.specs.inner.Steps.{step, walk}
 
 -- ---- what a kind of token stands for
 

@@ -11,9 +11,9 @@ use Rattle.vlog_parse.specs.declared.state.Found.{Found}
 use Rattle.vlog_parse.specs.declared.state.Fixed.TheVariants as fixed
 use Rattle.vlog_parse.specs.declared.state.State.{State}
 use Rattle.vlog_parse.specs.declared.state.State.TheVariants as state
-use Rattle.vlog_parse.specs.Places.{Place, Start, Whole}
-use Rattle.vlog_parse.specs.Steps.{step, walk}
-use Rattle.vlog_parse.specs.Machine.{Next, next, IsFound, is_whole, nothing}
+use Rattle.vlog_parse.specs.inner.Places.{Place, Start, Whole}
+use Rattle.vlog_parse.specs.inner.Steps.{step, walk}
+use Rattle.vlog_parse.specs.inner.Machine.{Next, next, IsFound, is_whole, nothing}
 use Rattle.vlog_parse.proofs.Walks.{at_some, any}
 use Rattle.vlog_parse.proofs.Exact.{text_walked}
 use Rattle.vlog_parse.proofs.Standing.{StandsAt, AtStart, AtEnd, Follows, whole_found}

@@ -15,9 +15,9 @@ use Rattle.vlog_parse.specs.declared.state.Found.{Found}
 use Rattle.vlog_parse.specs.declared.state.Fixed.TheVariants as fixed
 use Rattle.vlog_parse.specs.declared.state.State.{State}
 use Rattle.vlog_parse.specs.declared.state.State.TheVariants as state
-use Rattle.vlog_parse.specs.Places.{Place, Start, Whole}
-use Rattle.vlog_parse.specs.Steps.{step, walk}
-use Rattle.vlog_parse.specs.Machine.{Next, next, IsNext, IsFound, is_whole, nothing}
+use Rattle.vlog_parse.specs.inner.Places.{Place, Start, Whole}
+use Rattle.vlog_parse.specs.inner.Steps.{step, walk}
+use Rattle.vlog_parse.specs.inner.Machine.{Next, next, IsNext, IsFound, is_whole, nothing}
 use Rattle.vlog_parse.specs.Parsed.{IsReadAs}
 use Rattle.vlog_parse.specs.declared.fail.ParseFail.{ParseFail}
 use Rattle.vlog_parse.proofs.Walks.{walk-then}

@@ -19,15 +19,15 @@ use Rattle.vlog_text.specs.Trees.{name_of, operand_of, names_of, declare}
 use Rattle.vlog_parse.specs.declared.state.Found.{Found}
 use Rattle.vlog_parse.specs.declared.state.State.{State}
 use Rattle.vlog_parse.specs.declared.state.State.TheVariants as state
-use Rattle.vlog_parse.specs.Places.{OfAssign, FirstXor, FirstAnd, FirstUnit, PortHole, FirstPort, NextPort}
-use Rattle.vlog_parse.specs.Places.{DeclHole, FirstDecl, NextDecl, PinFront, Place}
-use Rattle.vlog_parse.specs.Places.{AfterName}
-use Rattle.vlog_parse.specs.Places.{AfterPins, AfterPin}
-use Rattle.vlog_parse.specs.Steps.{name_at, operand_at, single_or_many, with_port, with_name, with_item}
-use Rattle.vlog_parse.specs.Steps.{titled, first_head, whole, gate_front, pin_front, edge, with_arity, step}
-use Rattle.vlog_parse.specs.Steps.{many_gate, single_gate, always}
+use Rattle.vlog_parse.specs.inner.Places.{OfAssign, FirstXor, FirstAnd, FirstUnit, PortHole, FirstPort, NextPort}
+use Rattle.vlog_parse.specs.inner.Places.{DeclHole, FirstDecl, NextDecl, PinFront, Place}
+use Rattle.vlog_parse.specs.inner.Places.{AfterName}
+use Rattle.vlog_parse.specs.inner.Places.{AfterPins, AfterPin}
+use Rattle.vlog_parse.specs.inner.Steps.{name_at, operand_at, single_or_many, with_port, with_name, with_item}
+use Rattle.vlog_parse.specs.inner.Steps.{titled, first_head, whole, gate_front, pin_front, edge, with_arity, step}
+use Rattle.vlog_parse.specs.inner.Steps.{many_gate, single_gate, always}
 use Rattle.vlog_text.specs.Grammar.{Declare}
-use Rattle.vlog_parse.specs.Machine.{next, first_pin}
+use Rattle.vlog_parse.specs.inner.Machine.{next, first_pin}
 use Rattle.vlog_parse.proofs.Standing.{StandsAt, AtStart, AtModule, AtTitle, AtPort, BehindPort, BehindPorts, AtItems}
 use Rattle.vlog_parse.proofs.Standing.{AtName, BehindName, AtGateWord, AtInstance, AtTarget, BehindTarget, AtPin}
 use Rattle.vlog_parse.proofs.Standing.{AtNextPin, BehindPins, BehindPin, BehindManyGate, BehindSingleGate, AtAssign}

@@ -24,17 +24,21 @@ use Rattle.vlog_parse.specs.declared.state.AssignState.TheVariants as of_assign
 use Rattle.vlog_parse.specs.declared.state.RegState.TheVariants as of_reg
 use Rattle.vlog_parse.specs.declared.state.State.{State}
 use Rattle.vlog_parse.specs.declared.state.State.TheVariants as state
-use Rattle.vlog_parse.specs.Places.{Title, Head, OrHole, OfAssign, InRound, XorHole, FirstXor, NextXor, AndHole}
-use Rattle.vlog_parse.specs.Places.{FirstAnd, NextAnd, UnitHole, FirstUnit, NextUnit, UnderNot, PortHole, FirstPort}
-use Rattle.vlog_parse.specs.Places.{NextPort, DeclHole, FirstDecl, NextDecl, GateFront, PinFront, Edge, Place, Start}
-use Rattle.vlog_parse.specs.Places.{AfterModule, AfterTitle, WantsPort, AfterPort, AfterPorts, InItems, WantsName}
-use Rattle.vlog_parse.specs.Places.{AfterName, AfterGateWord, AfterInstance, WantsTarget, AfterTarget, WantsPin}
-use Rattle.vlog_parse.specs.Places.{WantsNextPin, AfterPins, AfterPin, AfterManyGate, AfterSingleGate, AfterAssign}
-use Rattle.vlog_parse.specs.Places.{AfterAssigned, WantsUnit, AfterUnit, AfterAlways, AfterAt, AfterClockOpen}
-use Rattle.vlog_parse.specs.Places.{AfterPosedge, AfterClock, AfterEdge, AfterRegister, AfterArrow, AfterTaken, Whole}
-use Rattle.vlog_parse.specs.Steps.{unit_hole, and_hole, xor_hole}
-use Rattle.vlog_parse.specs.Machine.{settled_pin, settled_gates, with_gates, with_gate, Next}
-use Rattle.vlog_parse.specs.Machine.{nothing}
+use Rattle.vlog_parse.specs.inner.Places.{Title, Head, OrHole, OfAssign, InRound, XorHole, FirstXor, NextXor, AndHole}
+use Rattle.vlog_parse.specs.inner.Places.{FirstAnd, NextAnd, UnitHole, FirstUnit, NextUnit, UnderNot, PortHole}
+use Rattle.vlog_parse.specs.inner.Places.{FirstPort}
+use Rattle.vlog_parse.specs.inner.Places.{NextPort, DeclHole, FirstDecl, NextDecl, GateFront, PinFront, Edge, Place}
+use Rattle.vlog_parse.specs.inner.Places.{Start}
+use Rattle.vlog_parse.specs.inner.Places.{AfterModule, AfterTitle, WantsPort, AfterPort, AfterPorts, InItems, WantsName}
+use Rattle.vlog_parse.specs.inner.Places.{AfterName, AfterGateWord, AfterInstance, WantsTarget, AfterTarget, WantsPin}
+use Rattle.vlog_parse.specs.inner.Places.{WantsNextPin, AfterPins, AfterPin, AfterManyGate, AfterSingleGate}
+use Rattle.vlog_parse.specs.inner.Places.{AfterAssign}
+use Rattle.vlog_parse.specs.inner.Places.{AfterAssigned, WantsUnit, AfterUnit, AfterAlways, AfterAt, AfterClockOpen}
+use Rattle.vlog_parse.specs.inner.Places.{AfterPosedge, AfterClock, AfterEdge, AfterRegister, AfterArrow, AfterTaken}
+use Rattle.vlog_parse.specs.inner.Places.{Whole}
+use Rattle.vlog_parse.specs.inner.Steps.{unit_hole, and_hole, xor_hole}
+use Rattle.vlog_parse.specs.inner.Machine.{settled_pin, settled_gates, with_gates, with_gate, Next}
+use Rattle.vlog_parse.specs.inner.Machine.{nothing}
 
 -- ---- what was found
 

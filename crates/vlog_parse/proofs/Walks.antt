@@ -15,21 +15,24 @@ use Rattle.vlog_text.specs.Grammar.{Bracketed, Lone, AndPhrase, XorPhrase, OrPhr
 use Rattle.vlog_text.specs.Grammar.{xor_tokens}
 use Rattle.vlog_text.specs.Grammar.{or_tokens, is_single, operands_tokens, ItemPhrase, item_tokens, names_tokens}
 use Rattle.vlog_text.specs.Grammar.{items_tokens, instance_tokens}
-use Rattle.vlog_parse.specs.Places.{Head, OrHole, OfAssign, InRound, XorHole, FirstXor, NextXor, AndHole}
-use Rattle.vlog_parse.specs.Places.{FirstAnd, NextAnd, UnitHole, FirstUnit, NextUnit, UnderNot, PortHole, FirstPort}
-use Rattle.vlog_parse.specs.Places.{NextPort, DeclHole, FirstDecl, NextDecl, PinFront, Place, Start}
-use Rattle.vlog_parse.specs.Places.{AfterModule, AfterTitle, WantsPort, AfterPort, AfterPorts, InItems, WantsName}
-use Rattle.vlog_parse.specs.Places.{AfterName, AfterGateWord, AfterInstance, WantsTarget, AfterTarget, WantsPin}
-use Rattle.vlog_parse.specs.Places.{WantsNextPin, AfterPins, AfterPin, AfterManyGate, AfterSingleGate, AfterAssign}
-use Rattle.vlog_parse.specs.Places.{AfterAssigned, WantsUnit, AfterUnit, AfterAlways, AfterAt, AfterClockOpen}
-use Rattle.vlog_parse.specs.Places.{AfterPosedge, AfterClock, AfterEdge, AfterRegister, AfterArrow, AfterTaken}
-use Rattle.vlog_parse.specs.Places.{before, before_or, before_xor, before_and, before_unit, before_port, before_decl}
-use Rattle.vlog_parse.specs.Places.{head_tokens, title_tokens, unit_nesting, pin_front_tokens, edge_tokens}
-use Rattle.vlog_parse.specs.Places.{gate_front_tokens}
-use Rattle.vlog_parse.specs.Steps.{name_at, operand_at, single_or_many, with_port, with_name, unit_hole, unit_and}
-use Rattle.vlog_parse.specs.Steps.{with_unit, and_hole, with_and, xor_hole, with_xor, start_item, with_arity}
-use Rattle.vlog_parse.specs.Steps.{with_item, always, many_gate, single_gate, start_unit, close_round}
-use Rattle.vlog_parse.specs.Steps.{end_assign, end_unit, step, walk}
+use Rattle.vlog_parse.specs.inner.Places.{Head, OrHole, OfAssign, InRound, XorHole, FirstXor, NextXor, AndHole}
+use Rattle.vlog_parse.specs.inner.Places.{FirstAnd, NextAnd, UnitHole, FirstUnit, NextUnit, UnderNot, PortHole}
+use Rattle.vlog_parse.specs.inner.Places.{FirstPort}
+use Rattle.vlog_parse.specs.inner.Places.{NextPort, DeclHole, FirstDecl, NextDecl, PinFront, Place, Start}
+use Rattle.vlog_parse.specs.inner.Places.{AfterModule, AfterTitle, WantsPort, AfterPort, AfterPorts, InItems, WantsName}
+use Rattle.vlog_parse.specs.inner.Places.{AfterName, AfterGateWord, AfterInstance, WantsTarget, AfterTarget, WantsPin}
+use Rattle.vlog_parse.specs.inner.Places.{WantsNextPin, AfterPins, AfterPin, AfterManyGate, AfterSingleGate}
+use Rattle.vlog_parse.specs.inner.Places.{AfterAssign}
+use Rattle.vlog_parse.specs.inner.Places.{AfterAssigned, WantsUnit, AfterUnit, AfterAlways, AfterAt, AfterClockOpen}
+use Rattle.vlog_parse.specs.inner.Places.{AfterPosedge, AfterClock, AfterEdge, AfterRegister, AfterArrow, AfterTaken}
+use Rattle.vlog_parse.specs.inner.Places.{before, before_or, before_xor, before_and, before_unit, before_port}
+use Rattle.vlog_parse.specs.inner.Places.{before_decl}
+use Rattle.vlog_parse.specs.inner.Places.{head_tokens, title_tokens, unit_nesting, pin_front_tokens, edge_tokens}
+use Rattle.vlog_parse.specs.inner.Places.{gate_front_tokens}
+use Rattle.vlog_parse.specs.inner.Steps.{name_at, operand_at, single_or_many, with_port, with_name, unit_hole, unit_and}
+use Rattle.vlog_parse.specs.inner.Steps.{with_unit, and_hole, with_and, xor_hole, with_xor, start_item, with_arity}
+use Rattle.vlog_parse.specs.inner.Steps.{with_item, always, many_gate, single_gate, start_unit, close_round}
+use Rattle.vlog_parse.specs.inner.Steps.{end_assign, end_unit, step, walk}
 
 -- the tokens before a place are these and one more
 abbrev Adds : List Token → TokenKind → Span → Place → Type 0

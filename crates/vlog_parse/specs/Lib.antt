@@ -1,5 +1,2 @@
-pub mod Lexing
+pub mod inner
 pub mod Parsed
-pub mod Places
-pub mod Steps
-pub mod Machine

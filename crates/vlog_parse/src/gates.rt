@@ -1,8 +1,8 @@
 // The gates of an `assign`.
 ghost use Rattle.std.specs.Prelude.{◌≡◌, [], ◌∷◌, ◌++◌, length, IfOk, OnOk};
-ghost use Rattle.vlog_parse.specs.Machine.{joined_part, held, made, settled_gates, settled_pin, unwound};
-ghost use Rattle.vlog_parse.specs.Machine.{unwound_frames};
-ghost use Rattle.vlog_parse.specs.Machine.{and_held, driven, or_held, with_part, xor_held};
+ghost use Rattle.vlog_parse.specs.inner.Machine.{joined_part, held, made, settled_gates, settled_pin, unwound};
+ghost use Rattle.vlog_parse.specs.inner.Machine.{unwound_frames};
+ghost use Rattle.vlog_parse.specs.inner.Machine.{and_held, driven, or_held, with_part, xor_held};
 ghost use Rattle.net_core.specs.declared.gate.GateKind.TheVariants as gate;
 
 use crate::stack::Stack;

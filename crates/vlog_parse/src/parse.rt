@@ -7,8 +7,8 @@ ghost use Rattle.vlog_text.specs.Raw.{IsRaw};
 ghost use Rattle.vlog_text.specs.Reading.{IsRead};
 ghost use Rattle.vlog_text.specs.Refusing.{refusal};
 ghost use Rattle.vlog_text.specs.Trees.{raw_of};
-ghost use Rattle.vlog_parse.specs.Machine as machine;
-ghost use Rattle.vlog_parse.specs.Machine.{IsFound};
+ghost use Rattle.vlog_parse.specs.inner.Machine as machine;
+ghost use Rattle.vlog_parse.specs.inner.Machine.{IsFound};
 ghost use Rattle.vlog_parse.specs.Parsed.{IsReadAs, IsUnreadable, StopsReading, Parses};
 
 use crate::fail::ParseFail;

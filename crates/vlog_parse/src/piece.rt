@@ -2,8 +2,8 @@
 ghost use Rattle.std.specs.Prelude.{◌≡◌, ◌≤◌, ◌<◌, ◌+◌, ◌^◌, ◌==◌, not, length, IfSome};
 ghost use Rattle.std.specs.List.{prefix_len};
 ghost use Rattle.vlog_text.specs.Lexing as lexing;
-ghost use Rattle.vlog_parse.specs.Lexing as words;
-ghost use Rattle.vlog_parse.specs.Lexing.{IsWithin};
+ghost use Rattle.vlog_parse.specs.inner.Lexing as words;
+ghost use Rattle.vlog_parse.specs.inner.Lexing.{IsWithin};
 
 use net_core::GateKind;
 use vlog_text::{DeclKind, Piece, TokenKind};

@@ -2,9 +2,9 @@
 ghost use Rattle.std.specs.Prelude.{◌≡◌, [], ◌∷◌, ◌++◌, IfOk, option_map};
 ghost use Rattle.vlog_text.specs.Grammar.{is_single};
 ghost use Rattle.vlog_text.specs.Trees.{name_of, operand_of, word_at};
-ghost use Rattle.vlog_parse.specs.Steps.{name_at, operand_at};
-ghost use Rattle.vlog_parse.specs.Machine as machine;
-ghost use Rattle.vlog_parse.specs.Machine.{IsNext};
+ghost use Rattle.vlog_parse.specs.inner.Steps.{name_at, operand_at};
+ghost use Rattle.vlog_parse.specs.inner.Machine as machine;
+ghost use Rattle.vlog_parse.specs.inner.Machine.{IsNext};
 
 use crate::stack::Stack;
 use crate::state::{AssignState, Assigned, Fixed, Found, GateState, RegState, State};

@@ -1,7 +1,7 @@
 // The steps inside what is assigned.
 ghost use Rattle.std.specs.Prelude.{◌≡◌, [], ◌∷◌, ◌<◌, length, IfOk, true};
-ghost use Rattle.vlog_parse.specs.Machine as machine;
-ghost use Rattle.vlog_parse.specs.Machine.{IsNext, held};
+ghost use Rattle.vlog_parse.specs.inner.Machine as machine;
+ghost use Rattle.vlog_parse.specs.inner.Machine.{IsNext, held};
 
 use crate::gates::{drive, join_and, join_level, join_xor, put, unwind};
 use crate::stack::Stack;

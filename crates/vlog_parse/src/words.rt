@@ -1,7 +1,7 @@
 // Names and operands.
 ghost use Rattle.std.specs.Prelude.{◌≡◌, [], ◌∷◌, IfOk, option_map};
 ghost use Rattle.vlog_text.specs.Trees.{name_of, operand_of, word_at};
-ghost use Rattle.vlog_parse.specs.Steps.{name_at, operand_at, name_phrase};
+ghost use Rattle.vlog_parse.specs.inner.Steps.{name_at, operand_at, name_phrase};
 
 use pbs_base::{Listed, Memory, Span, Word};
 use std::alloc::Global;

@@ -1,7 +1,7 @@
 use Rattle.std.proofs.Common.{List, length, take, drop, ap, ◌∙◌}
 use Rattle.net_core.specs.declared.gate.Wire.{Wire}
 use Rattle.pbs_ast.specs.Trees.{tree_of}
-use Rattle.frag_compose.specs.Gains.{with_registers}
+use Rattle.frag_compose.specs.inner.Gains.{with_registers}
 use Rattle.frag_compose.proofs.Composing.{composed}
 use Rattle.frag_compose.proofs.circuit.add_circuit.Goals as goal
 

@@ -1,7 +1,7 @@
 use Rattle.std.proofs.Common.{rules, ◌≡◌, ℕ, ◌<◌, length, refl, ap, subst, ◌∙◌, arith}
 use Rattle.net_core.specs.Circuits.{Circuit}
 use Rattle.frag_compose.specs.declared.plan.Plan.{Plan}
-use Rattle.frag_compose.specs.Plans.{PlanFits, plan_nodes}
+use Rattle.frag_compose.specs.inner.Plans.{PlanFits, plan_nodes}
 use Rattle.frag_compose.proofs.Rising.{part_fits, extends_trans}
 use Rattle.frag_compose.proofs.descend.+descend.Goals as goal
 

@@ -6,7 +6,7 @@ use Rattle.net_core.specs.declared.gate.Wire.{Wire}
 use Rattle.net_core.specs.Circuits.{Circuit}
 use Rattle.net_core.specs.Building.{Extends}
 use Rattle.frag_compose.specs.declared.nodes.Risen.{Risen}
-use Rattle.frag_compose.specs.Plans.{RisesTo, signals_of}
+use Rattle.frag_compose.specs.inner.Plans.{RisesTo, signals_of}
 use Rattle.frag_compose.proofs.Rising.{rises_later, seq_rises, choice_rises, star_rises, scope_rises}
 use Rattle.frag_compose.proofs.rise.+rise.Goals as goal
 

@@ -5,7 +5,7 @@ use Rattle.vlog_text.specs.declared.raw.RawName.{RawName}
 use Rattle.vlog_text.specs.Words.{repeated}
 use Rattle.net_order.specs.Taking.{AllNamed}
 use Rattle.net_order.proofs.TextGates.{all_named}
-use Rattle.net_assemble.specs.Parts.{ArePlaces}
+use Rattle.net_assemble.specs.inner.Parts.{ArePlaces}
 use Rattle.net_assemble.proofs.Placed.{order_few, in_order, are_places}
 use Rattle.net_assemble.proofs.Parts.{ports_once, few_inputs, gate_count, names_are, drivers_are, moved_are, circuit_is}
 use Rattle.net_assemble.proofs.assemble.assemble.Goals as goal

@@ -6,7 +6,7 @@ use Rattle.vlog_text.specs.Orders.{is_among}
 use Rattle.vlog_text.specs.Words.{target_name}
 use Rattle.vlog_text.specs.Standing.{resolved, registers, the_order}
 use Rattle.vlog_text.specs.Refusing.{earliest, refusals, left_out}
-use Rattle.net_order.specs.Queues.{marked}
+use Rattle.net_order.specs.inner.Queues.{marked}
 use Rattle.net_order.specs.Wires.{capped_gate}
 use Rattle.net_order.proofs.TextGates.{firsts_within}
 use Rattle.net_order.proofs.check.order_all.Goals as goal

@@ -2,7 +2,7 @@ use Rattle.std.proofs.Common.{◌≡◌, List, map, filter, None, ap, ◌∙◌}
 use Rattle.vlog_text.specs.declared.raw.RawDecl.{RawDecl}
 use Rattle.vlog_text.specs.Refusing.{earliest, refusals, at_place}
 use Rattle.net_order.specs.declared.checks.Counted.TheVariants.{Inputs, Outputs}
-use Rattle.net_order.specs.Checks.{is_counted}
+use Rattle.net_order.specs.inner.Checks.{is_counted}
 use Rattle.net_order.proofs.RuleLemmas.{then_noted}
 use Rattle.net_order.proofs.checks.check_counts.Goals as goal
 

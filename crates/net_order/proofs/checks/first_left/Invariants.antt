@@ -1,5 +1,5 @@
 use Rattle.std.proofs.Common.{◌≡◌, ℕ, ◌<◌, true}
-use Rattle.net_order.specs.Queues.{marked}
+use Rattle.net_order.specs.inner.Queues.{marked}
 use Rattle.net_order.proofs.checks.first_left.Given as goal
 
 abbrev pub invariant-loop-n : goal.invariant-loop-n

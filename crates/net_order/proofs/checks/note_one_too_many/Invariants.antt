@@ -1,7 +1,7 @@
 use Rattle.std.proofs.Common.{◌≡◌, map, filter, drop}
 use Rattle.vlog_text.specs.declared.raw.RawDecl.{RawDecl}
 use Rattle.vlog_text.specs.Refusing.{at_place}
-use Rattle.net_order.specs.Checks.{is_counted}
+use Rattle.net_order.specs.inner.Checks.{is_counted}
 use Rattle.net_order.proofs.checks.note_one_too_many.Given as goal
 
 abbrev pub invariant-loop-decl : goal.invariant-loop-decl

@@ -7,7 +7,7 @@ use Rattle.vlog_text.specs.declared.raw.RawPin.{RawPin}
 use Rattle.vlog_text.specs.Words.{pin_name, target_name}
 use Rattle.vlog_text.specs.Refusing.{earliest, refusals}
 use Rattle.net_order.specs.Names.{kinds_in, has_fault, when}
-use Rattle.net_order.specs.Rows.{faulty, named_pin, named_target}
+use Rattle.net_order.specs.inner.Rows.{faulty, named_pin, named_target}
 use Rattle.net_order.proofs.Noting.{noted_more, name_opens}
 use Rattle.net_order.proofs.rows.note_names.Goals as goal
 

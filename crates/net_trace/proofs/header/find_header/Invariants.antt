@@ -1,6 +1,6 @@
 use Rattle.std.proofs.Common.{◌≡◌, ◌-◌, ℕ, List, length}
 use Rattle.std.specs.Io.KnownBytes.{prepend_known}
-use Rattle.net_trace.specs.Steps.{OnlyReads}
+use Rattle.net_trace.specs.inner.Steps.{OnlyReads}
 use Rattle.net_trace.proofs.HeadLemmas.{HeaderRead}
 use Rattle.net_trace.proofs.header.find_header.Given as goal
 

@@ -1,5 +1,5 @@
 use Rattle.std.proofs.Common.{Ok, ap, ◌∙◌, arith}
-use Rattle.net_trace.specs.Steps.{GoesOnReading}
+use Rattle.net_trace.specs.inner.Steps.{GoesOnReading}
 use Rattle.net_trace.proofs.StandLemmas.{done_ends}
 use Rattle.net_trace.proofs.rows.read_rows.Goals as goal
 

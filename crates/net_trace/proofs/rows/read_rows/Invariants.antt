@@ -2,7 +2,7 @@ use Rattle.std.proofs.Common.{◌≡◌, ◌<◌, ◌≤◌, ◌-◌, ℕ, List,
 use Rattle.pbs_base.specs.Outside.{SinkState}
 use Rattle.net_core.specs.Circuits.{Circuit}
 use Rattle.trace_reader.specs.declared.answers.Phase.TheVariants as phase
-use Rattle.net_trace.specs.Steps.{OnlyReads, Standing}
+use Rattle.net_trace.specs.inner.Steps.{OnlyReads, Standing}
 use Rattle.net_trace.proofs.rows.read_rows.Given as goal
 
 abbrev pub invariant-loop-fail : goal.invariant-loop-fail

@@ -1,5 +1,5 @@
 use Rattle.std.proofs.Common.{◌++◌, ◌-◌, [], drop, take, subst}
-use Rattle.net_trace.specs.Steps.{Begins}
+use Rattle.net_trace.specs.inner.Steps.{Begins}
 use Rattle.net_trace.proofs.OpenLemmas.{begin_failed, unused_part}
 use Rattle.net_trace.proofs.StandLemmas.{piece_done, piece_failed}
 use Rattle.net_trace.proofs.run.run_rows.Goals as goal

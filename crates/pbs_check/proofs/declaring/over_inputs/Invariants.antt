@@ -1,5 +1,5 @@
 use Rattle.std.proofs.Common.{◌≡◌, ◌≤◌, drop}
-use Rattle.pbs_check.specs.Stages.{over_inputs}
+use Rattle.pbs_check.specs.inner.Stages.{over_inputs}
 use Rattle.pbs_check.proofs.declaring.over_inputs.Given as goal
 
 abbrev pub invariant-loop-decl : goal.invariant-loop-decl

@@ -1,5 +1,5 @@
 use Rattle.std.proofs.Common.{sym, ◌∙◌}
-use Rattle.pbs_check.specs.Facts.{known_of}
+use Rattle.pbs_check.specs.inner.Facts.{known_of}
 use Rattle.pbs_check.proofs.FactLemmas.{after_step, either_step, seq_facts, choice_facts}
 use Rattle.pbs_check.proofs.facts.+facts.Goals as goal
 

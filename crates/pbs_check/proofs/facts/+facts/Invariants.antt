@@ -1,5 +1,5 @@
 use Rattle.std.proofs.Common.{◌≡◌, drop}
-use Rattle.pbs_check.specs.Facts.{after, either, known_of, all_facts, any_facts}
+use Rattle.pbs_check.specs.inner.Facts.{after, either, known_of, all_facts, any_facts}
 use Rattle.pbs_check.proofs.facts.+facts.Given as goal
 
 abbrev pub invariant-all_facts-loop-item : goal.invariant-all_facts-loop-item

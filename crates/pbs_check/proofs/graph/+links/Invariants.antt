@@ -1,7 +1,7 @@
 use Rattle.std.proofs.Common.{◌≡◌, ◌++◌, drop}
 use Rattle.pbs_rules.specs.Numbers.{number_in}
-use Rattle.pbs_check.specs.Links.{links_in}
-use Rattle.pbs_check.specs.Walking.{inside_all}
+use Rattle.pbs_check.specs.inner.Links.{links_in}
+use Rattle.pbs_check.specs.inner.Walking.{inside_all}
 use Rattle.pbs_check.proofs.graph.+links.Given as goal
 
 abbrev pub invariant-push_all-loop-item : goal.invariant-push_all-loop-item

@@ -1,7 +1,7 @@
 use Rattle.std.proofs.Common.{◌≡◌, ◌++◌, ℕ, drop, map}
 use Rattle.std.specs.Global.{Vec}
 use Rattle.pbs_check.specs.declared.graph.Link.{Link}
-use Rattle.pbs_check.specs.Links.{targets_of}
+use Rattle.pbs_check.specs.inner.Links.{targets_of}
 use Rattle.pbs_check.proofs.graph.all_targets.Given as goal
 
 abbrev pub invariant-loop-links : goal.invariant-loop-links

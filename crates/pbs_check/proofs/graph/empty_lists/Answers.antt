@@ -1,6 +1,6 @@
 use Rattle.std.proofs.Common.{ℕ, List, [], ◌∷◌, length, sym, ap, subst, ◌∙◌, arith, length-append}
 use Rattle.std.specs.Global.{Vec}
-use Rattle.pbs_check.specs.Links.{HasNext}
+use Rattle.pbs_check.specs.inner.Links.{HasNext}
 use Rattle.pbs_check.proofs.UserLemmas.{no_lists, nothing_more}
 use Rattle.pbs_check.proofs.graph.empty_lists.Goals as goal
 

@@ -1,5 +1,5 @@
 use Rattle.std.proofs.Common.{◌≡◌, ℕ, length}
-use Rattle.pbs_check.specs.Links.{HasNext}
+use Rattle.pbs_check.specs.inner.Links.{HasNext}
 use Rattle.pbs_check.proofs.graph.empty_lists.Given as goal
 
 abbrev pub invariant-loop-number : goal.invariant-loop-number

@@ -1,5 +1,5 @@
 use Rattle.std.proofs.Common.{get_or}
-use Rattle.pbs_check.specs.Links.{link}
+use Rattle.pbs_check.specs.inner.Links.{link}
 use Rattle.pbs_check.proofs.UserLemmas.{adds_none, adds_step, copied_at}
 use Rattle.pbs_check.proofs.graph.push_users.Goals as goal
 

@@ -1,5 +1,5 @@
 use Rattle.std.proofs.Common.{take}
-use Rattle.pbs_check.specs.Links.{AddsUsers}
+use Rattle.pbs_check.specs.inner.Links.{AddsUsers}
 use Rattle.pbs_check.proofs.graph.push_users.Given as goal
 
 abbrev pub invariant-loop-link : goal.invariant-loop-link

@@ -1,5 +1,5 @@
 use Rattle.std.proofs.Common.{◌≡◌, ◌++◌, drop}
-use Rattle.pbs_check.specs.Links.{targets_of}
+use Rattle.pbs_check.specs.inner.Links.{targets_of}
 use Rattle.pbs_check.proofs.graph.targets_of.Given as goal
 
 abbrev pub invariant-loop-link : goal.invariant-loop-link

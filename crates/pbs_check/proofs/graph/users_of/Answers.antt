@@ -1,6 +1,6 @@
 use Rattle.std.proofs.Common.{List, subst}
 use Rattle.pbs_check.specs.declared.graph.Link.{Link}
-use Rattle.pbs_check.specs.Links.{AddsUsers}
+use Rattle.pbs_check.specs.inner.Links.{AddsUsers}
 use Rattle.pbs_check.proofs.UserLemmas.{users_none, users_step, users_all}
 use Rattle.pbs_check.proofs.graph.users_of.Goals as goal
 

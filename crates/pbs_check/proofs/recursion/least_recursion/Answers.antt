@@ -1,8 +1,8 @@
 use Rattle.std.proofs.Common.{◌+◌, Option, None, get_or, sym, ap, subst, ◌∙◌}
 use Rattle.pbs_base.specs.declared.refusal.Span.{Span}
-use Rattle.pbs_check.specs.Circles.{round_span}
+use Rattle.pbs_check.specs.inner.Circles.{round_span}
 use Rattle.pbs_check.specs.Least.{IsLeast, least_of, least_by}
-use Rattle.pbs_check.specs.Links.{HasRecursionTo}
+use Rattle.pbs_check.specs.inner.Links.{HasRecursionTo}
 use Rattle.pbs_check.proofs.GraphLemmas.{get_at}
 use Rattle.pbs_check.proofs.RoundLemmas.{recursion_is, below_more, below_all}
 use Rattle.pbs_check.proofs.recursion.least_recursion.Goals as goal

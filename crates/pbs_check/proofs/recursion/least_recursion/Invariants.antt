@@ -1,5 +1,5 @@
 use Rattle.pbs_check.specs.Least.{IsLeast}
-use Rattle.pbs_check.specs.Links.{HasRecursionTo}
+use Rattle.pbs_check.specs.inner.Links.{HasRecursionTo}
 use Rattle.pbs_check.proofs.recursion.least_recursion.Given as goal
 
 abbrev pub invariant-loop-number : goal.invariant-loop-number

@@ -1,5 +1,5 @@
 use Rattle.std.proofs.Common.{◌≡◌, drop}
-use Rattle.pbs_check.specs.Circles.{round_span}
+use Rattle.pbs_check.specs.inner.Circles.{round_span}
 use Rattle.pbs_check.specs.Least.{least_of, least_by}
 use Rattle.pbs_check.proofs.recursion.least_round.Given as goal
 

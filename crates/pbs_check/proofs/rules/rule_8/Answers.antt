@@ -2,7 +2,7 @@ use Rattle.std.proofs.Common.{List, sym, subst, ◌∙◌}
 use Rattle.std.specs.Global.{Vec}
 use Rattle.pbs_check.specs.declared.graph.Link.{Link}
 use Rattle.pbs_check.specs.Least.{IsLeast}
-use Rattle.pbs_check.specs.Links.{HasRecursion}
+use Rattle.pbs_check.specs.inner.Links.{HasRecursion}
 use Rattle.pbs_check.proofs.NumberLemmas.{closed_uses, uses_size, rule_8_is}
 use Rattle.pbs_check.proofs.rules.rule_8.Goals as goal
 

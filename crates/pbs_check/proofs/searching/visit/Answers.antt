@@ -1,6 +1,6 @@
 use Rattle.std.proofs.Common.{◌≡◌, ℕ, List, Some, sym, subst}
 use Rattle.std.specs.Prelude.{Contains, slice_get}
-use Rattle.pbs_check.specs.Links.{HasNext, By}
+use Rattle.pbs_check.specs.inner.Links.{HasNext, By}
 use Rattle.pbs_check.proofs.GraphLemmas.{get_at, on_ok}
 use Rattle.pbs_check.proofs.SearchLemmas.{grows_as, next_at, no_next_at}
 use Rattle.pbs_check.proofs.searching.visit.Goals as goal

@@ -1,6 +1,6 @@
 use Rattle.std.proofs.Common.{◌≡◌, ℕ, ◌==◌, List, cond, Some, None, sym, ap, ◌∙◌}
 use Rattle.std.specs.Cmp.Lexicographic.{pointwise}
-use Rattle.pbs_check.specs.Facts.{known_of}
+use Rattle.pbs_check.specs.inner.Facts.{known_of}
 use Rattle.pbs_check.proofs.SettleLemmas.{learnt}
 use Rattle.pbs_check.proofs.LearnLemmas.{none_from, fewer_unknown}
 use Rattle.pbs_check.proofs.settling.learn.Goals as goal

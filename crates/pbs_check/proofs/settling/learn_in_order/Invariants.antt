@@ -1,5 +1,5 @@
-use Rattle.pbs_check.specs.Facts.{known_of}
-use Rattle.pbs_check.specs.Truth.{Settles}
+use Rattle.pbs_check.specs.inner.Facts.{known_of}
+use Rattle.pbs_check.specs.inner.Truth.{Settles}
 use Rattle.pbs_check.proofs.settling.learn_in_order.Given as goal
 
 abbrev pub invariant-loop-number : goal.invariant-loop-number

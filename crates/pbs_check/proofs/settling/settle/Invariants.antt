@@ -1,5 +1,5 @@
-use Rattle.pbs_check.specs.Facts.{known_of}
-use Rattle.pbs_check.specs.Truth.{Settles, unknown_count}
+use Rattle.pbs_check.specs.inner.Facts.{known_of}
+use Rattle.pbs_check.specs.inner.Truth.{Settles, unknown_count}
 use Rattle.pbs_check.proofs.settling.settle.Given as goal
 
 abbrev pub invariant-loop-known : goal.invariant-loop-known

@@ -1,6 +1,6 @@
 use Rattle.std.proofs.Common.{◌+◌, drop, ap, sym, ◌∙◌}
 use Rattle.pbs_check.specs.Least.{least_by}
-use Rattle.pbs_check.specs.Walking.{own_broken, inside, inside_all, below_kind}
+use Rattle.pbs_check.specs.inner.Walking.{own_broken, inside, inside_all, below_kind}
 use Rattle.pbs_check.proofs.LeastLemmas.{least_step, three_least}
 use Rattle.pbs_check.proofs.WalkLemmas.{inside_at, below_seq, below_choice}
 use Rattle.pbs_check.proofs.uses.+expr.Goals as goal

@@ -1,7 +1,7 @@
 use Rattle.std.proofs.Common.{◌+◌, drop, ap, sym, ◌∙◌}
 use Rattle.pbs_check.specs.Least.{least_by}
 use Rattle.pbs_check.specs.Using.{leaves}
-use Rattle.pbs_check.specs.Walking.{leaf_broken, all_leaves}
+use Rattle.pbs_check.specs.inner.Walking.{leaf_broken, all_leaves}
 use Rattle.pbs_check.proofs.LeastLemmas.{least_step}
 use Rattle.pbs_check.proofs.WalkLemmas.{leaves_at, all_leaves_of, any_leaves_of}
 use Rattle.pbs_check.proofs.uses.+term.Goals as goal

@@ -1,6 +1,6 @@
 use Rattle.std.proofs.Common.{◌≡◌, drop}
 use Rattle.pbs_check.specs.Least.{least_of, least_by}
-use Rattle.pbs_check.specs.Walking.{leaf_broken, all_leaves}
+use Rattle.pbs_check.specs.inner.Walking.{leaf_broken, all_leaves}
 use Rattle.pbs_check.proofs.uses.+term.Given as goal
 
 abbrev pub invariant-items_broken-loop-item : goal.invariant-items_broken-loop-item

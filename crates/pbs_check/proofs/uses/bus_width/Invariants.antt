@@ -1,5 +1,5 @@
 use Rattle.std.proofs.Common.{◌≡◌, drop}
-use Rattle.pbs_check.specs.Walking.{bus_width}
+use Rattle.pbs_check.specs.inner.Walking.{bus_width}
 use Rattle.pbs_check.proofs.uses.bus_width.Given as goal
 
 abbrev pub invariant-loop-decl : goal.invariant-loop-decl

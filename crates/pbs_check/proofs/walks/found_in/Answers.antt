@@ -1,5 +1,5 @@
 use Rattle.pbs_check.specs.Least.{least_by}
-use Rattle.pbs_check.specs.Walking.{own_broken, level_broken, inside, inside_prods}
+use Rattle.pbs_check.specs.inner.Walking.{own_broken, level_broken, inside, inside_prods}
 use Rattle.pbs_check.proofs.LeastLemmas.{two_least}
 use Rattle.pbs_check.proofs.walks.found_in.Goals as goal
 

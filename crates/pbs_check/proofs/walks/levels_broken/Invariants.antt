@@ -1,6 +1,6 @@
 use Rattle.std.proofs.Common.{◌≡◌, drop}
 use Rattle.pbs_check.specs.Least.{least_of, least_by}
-use Rattle.pbs_check.specs.Walking.{level_broken}
+use Rattle.pbs_check.specs.inner.Walking.{level_broken}
 use Rattle.pbs_check.proofs.walks.levels_broken.Given as goal
 
 abbrev pub invariant-loop-level : goal.invariant-loop-level

@@ -1,6 +1,6 @@
 use Rattle.std.proofs.Common.{◌+◌, drop}
 use Rattle.pbs_check.specs.Least.{least_by}
-use Rattle.pbs_check.specs.Walking.{own_broken, inside, inside_prods}
+use Rattle.pbs_check.specs.inner.Walking.{own_broken, inside, inside_prods}
 use Rattle.pbs_check.proofs.LeastLemmas.{least_step}
 use Rattle.pbs_check.proofs.WalkLemmas.{prods_at}
 use Rattle.pbs_check.proofs.walks.prods_broken.Goals as goal

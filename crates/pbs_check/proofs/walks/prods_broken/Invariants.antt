@@ -1,6 +1,6 @@
 use Rattle.std.proofs.Common.{◌≡◌, drop}
 use Rattle.pbs_check.specs.Least.{least_of, least_by}
-use Rattle.pbs_check.specs.Walking.{own_broken, inside_prods}
+use Rattle.pbs_check.specs.inner.Walking.{own_broken, inside_prods}
 use Rattle.pbs_check.proofs.walks.prods_broken.Given as goal
 
 abbrev pub invariant-loop-prod : goal.invariant-loop-prod

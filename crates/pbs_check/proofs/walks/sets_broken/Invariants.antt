@@ -1,6 +1,6 @@
 use Rattle.std.proofs.Common.{◌≡◌, drop}
 use Rattle.pbs_check.specs.Least.{least_of, least_by}
-use Rattle.pbs_check.specs.Walking.{set_broken}
+use Rattle.pbs_check.specs.inner.Walking.{set_broken}
 use Rattle.pbs_check.proofs.walks.sets_broken.Given as goal
 
 abbrev pub invariant-loop-set : goal.invariant-loop-set

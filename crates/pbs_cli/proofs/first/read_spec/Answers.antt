@@ -1,6 +1,6 @@
 use Rattle.pbs_base.specs.declared.refusal.Subject.TheVariants.{Spec}
 use Rattle.pbs_engine.specs.Accepted.{Breaks}
-use Rattle.pbs_cli.specs.Parts.{IsTooLong}
+use Rattle.pbs_cli.specs.inner.Parts.{IsTooLong}
 use Rattle.pbs_cli.proofs.AnswerLemmas.{reads_more, long_spec}
 use Rattle.pbs_cli.proofs.first.read_spec.Goals as goal
 

@@ -1,6 +1,6 @@
 use Rattle.pbs_base.specs.declared.refusal.Subject.TheVariants.{Netlist}
 use Rattle.vlog_text.specs.Reading.{IsRefusedBy}
-use Rattle.pbs_cli.specs.Parts.{IsTooLong}
+use Rattle.pbs_cli.specs.inner.Parts.{IsTooLong}
 use Rattle.pbs_cli.proofs.AnswerLemmas.{reads_more, long_netlist}
 use Rattle.pbs_cli.proofs.first.read_verilog.Goals as goal
 

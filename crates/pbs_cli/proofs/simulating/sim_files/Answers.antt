@@ -4,7 +4,7 @@ use Rattle.pbs_base.specs.declared.refusal.Refusal.{Refusal}
 use Rattle.vlog_text.specs.Reading.{IsRefusedBy}
 use Rattle.pbs_cli.specs.Words.{Sim}
 use Rattle.pbs_cli.specs.Answers.{Answer, refused, Defines, OnBadNetlist}
-use Rattle.pbs_cli.specs.Parts.{sim_answers}
+use Rattle.pbs_cli.specs.inner.Parts.{sim_answers}
 use Rattle.pbs_cli.proofs.AnswerLemmas.{refuses, refused_not_accepted}
 use Rattle.pbs_cli.proofs.CommandLemmas.{settled, failed, no_memory, went_on}
 use Rattle.pbs_cli.proofs.PartLemmas.{sim_command}

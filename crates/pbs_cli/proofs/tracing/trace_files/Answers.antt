@@ -6,7 +6,7 @@ use Rattle.net_trace.specs.Outcomes as run
 use Rattle.pbs_engine.specs.Outcomes as outcomes
 use Rattle.pbs_cli.specs.Words.{Trace}
 use Rattle.pbs_cli.specs.Answers.{Answer, refused, Defines, OnOutcome}
-use Rattle.pbs_cli.specs.Parts.{trace_answers}
+use Rattle.pbs_cli.specs.inner.Parts.{trace_answers}
 use Rattle.pbs_cli.proofs.AnswerLemmas.{refuses, refused_not_accepted}
 use Rattle.pbs_cli.proofs.CommandLemmas.{settled, failed, no_memory, went_on}
 use Rattle.pbs_cli.proofs.PartLemmas.{trace_command}

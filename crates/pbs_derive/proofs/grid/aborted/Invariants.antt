@@ -1,5 +1,5 @@
 use Rattle.std.proofs.Common.{◌≡◌, ◌<◌, ℕ, false}
-use Rattle.pbs_derive.specs.Tables.{trips_at}
+use Rattle.pbs_derive.specs.inner.Tables.{trips_at}
 use Rattle.pbs_derive.proofs.grid.aborted.Given as goal
 
 abbrev pub invariant-loop-m : goal.invariant-loop-m

@@ -1,5 +1,5 @@
 use Rattle.std.proofs.Common.{◌≡◌, ◌≤◌, ◌<◌, ℕ, true}
-use Rattle.pbs_derive.specs.Tables.{entry}
+use Rattle.pbs_derive.specs.inner.Tables.{entry}
 use Rattle.pbs_derive.proofs.grid.throughout.Given as goal
 
 abbrev pub invariant-loop-m : goal.invariant-loop-m

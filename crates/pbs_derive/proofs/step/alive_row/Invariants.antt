@@ -1,5 +1,5 @@
 use Rattle.std.proofs.Common.{◌≡◌, ◌≤◌, ◌<◌, ℕ, length}
-use Rattle.pbs_derive.specs.Tables.{entry, step_alive}
+use Rattle.pbs_derive.specs.inner.Tables.{entry, step_alive}
 use Rattle.pbs_derive.proofs.step.alive_row.Given as goal
 
 abbrev pub invariant-loop-j : goal.invariant-loop-j

@@ -1,5 +1,5 @@
 use Rattle.std.proofs.Common.{◌≡◌, ◌+◌, ◌≤◌, ◌<◌, ℕ, length}
-use Rattle.pbs_derive.specs.Tables.{at, step_covers}
+use Rattle.pbs_derive.specs.inner.Tables.{at, step_covers}
 use Rattle.pbs_derive.proofs.step.covers_grid.Given as goal
 
 abbrev pub invariant-loop-back : goal.invariant-loop-back

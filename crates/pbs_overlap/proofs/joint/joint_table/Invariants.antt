@@ -1,5 +1,5 @@
 use Rattle.std.proofs.Common.{◌≡◌, length}
-use Rattle.pbs_overlap.specs.Joints.{AreTold}
+use Rattle.pbs_overlap.specs.inner.Joints.{AreTold}
 use Rattle.pbs_overlap.proofs.joint.joint_table.Given as goal
 
 abbrev pub invariant-loop-cell : goal.invariant-loop-cell

@@ -1,6 +1,6 @@
 use Rattle.std.proofs.Common.{refl, rules, sym, ap, arith, length, subst}
 use Rattle.pbs_ast.specs.Trees.{tree_of}
-use Rattle.pbs_overlap.specs.Joints.{AllInputsBelow}
+use Rattle.pbs_overlap.specs.inner.Joints.{AllInputsBelow}
 use Rattle.pbs_overlap.proofs.JointLemmas.{inputs_below, few_codes, few_nodes, all_nodes, tells_joint}
 use Rattle.pbs_overlap.proofs.joint.joint_terms.Goals as goal
 

@@ -1,5 +1,5 @@
 use Rattle.std.proofs.Common.{◌≡◌, length}
-use Rattle.pbs_overlap.specs.Joints.{StandFor}
+use Rattle.pbs_overlap.specs.inner.Joints.{StandFor}
 use Rattle.pbs_overlap.proofs.joint.nodes_of.Given as goal
 
 abbrev pub invariant-loop-term : goal.invariant-loop-term

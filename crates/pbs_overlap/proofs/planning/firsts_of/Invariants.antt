@@ -1,5 +1,5 @@
 use Rattle.std.proofs.Common.{ℕ, ◌<◌, ◌≤◌, length}
-use Rattle.pbs_overlap.specs.Planning.{AreSplit, edge_at}
+use Rattle.pbs_overlap.specs.inner.Planning.{AreSplit, edge_at}
 use Rattle.pbs_overlap.proofs.planning.firsts_of.Given as goal
 
 abbrev pub invariant-loop-place : goal.invariant-loop-place

@@ -1,5 +1,5 @@
 use Rattle.std.proofs.Common.{ℕ, ◌<◌, ◌≤◌, ◌-◌, length}
-use Rattle.pbs_overlap.specs.Planning.{edge_at}
+use Rattle.pbs_overlap.specs.inner.Planning.{edge_at}
 use Rattle.pbs_overlap.proofs.planning.skip.Given as goal
 
 abbrev pub invariant-loop-k : goal.invariant-loop-k

@@ -1,4 +1,4 @@
-use Rattle.pbs_overlap.specs.Planning.{AreStepsOf}
+use Rattle.pbs_overlap.specs.inner.Planning.{AreStepsOf}
 use Rattle.pbs_overlap.proofs.planning.steps_of.Given as goal
 
 abbrev pub invariant-loop-edge : goal.invariant-loop-edge

@@ -1,7 +1,7 @@
 use Rattle.std.proofs.Common.{◌≡◌, ℕ, ◌<◌, true, Some}
 use Rattle.std.specs.Prelude.{slice_get}
 use Rattle.pbs_overlap.specs.declared.ranges.ScopeRange.{ScopeRange}
-use Rattle.pbs_overlap.specs.Steps.{aborts_range}
+use Rattle.pbs_overlap.specs.inner.Steps.{aborts_range}
 use Rattle.pbs_overlap.proofs.steps.aborted.Given as goal
 
 abbrev pub invariant-loop-s : goal.invariant-loop-s

@@ -1,5 +1,5 @@
 use Rattle.std.proofs.Common.{length}
-use Rattle.pbs_read.specs.DeclDescent.{ReadsSets}
+use Rattle.pbs_read.specs.inner.DeclDescent.{ReadsSets}
 use Rattle.pbs_read.proofs.decls.sets.Given as goal
 
 abbrev pub invariant-loop-span : goal.invariant-loop-span

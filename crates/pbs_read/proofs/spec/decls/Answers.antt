@@ -1,5 +1,5 @@
 use Rattle.std.proofs.lemmas.Result.{err_from_is_err_and}
-use Rattle.pbs_read.specs.TextDescent.{bare_lists}
+use Rattle.pbs_read.specs.inner.TextDescent.{bare_lists}
 use Rattle.pbs_read.proofs.TextExits.{decls_more, decls_stop}
 use Rattle.pbs_read.proofs.spec.decls.Goals as goal
 

@@ -1,5 +1,5 @@
 use Rattle.std.proofs.Common.{length}
-use Rattle.pbs_read.specs.TextDescent.{ReadsDecls, bare_lists}
+use Rattle.pbs_read.specs.inner.TextDescent.{ReadsDecls, bare_lists}
 use Rattle.pbs_read.proofs.spec.decls.Given as goal
 
 abbrev pub invariant-loop-found : goal.invariant-loop-found

@@ -1,7 +1,7 @@
 use Rattle.std.proofs.Common.{◌≡◌, length}
 use Rattle.std.specs.List.{list_all}
 use Rattle.trace_reader.specs.Headers.{is_name}
-use Rattle.trace_reader.specs.Names.{words_behind}
+use Rattle.trace_reader.specs.inner.Names.{words_behind}
 use Rattle.trace_reader.proofs.names.are_names.Given as goal
 
 abbrev pub invariant-loop-behind : goal.invariant-loop-behind

@@ -1,5 +1,5 @@
 use Rattle.std.proofs.Common.{length}
-use Rattle.trace_reader.specs.Names.{words_behind}
+use Rattle.trace_reader.specs.inner.Names.{words_behind}
 use Rattle.trace_reader.proofs.NameLemmas.{NamesTo}
 use Rattle.trace_reader.proofs.names.read_names.Given as goal
 

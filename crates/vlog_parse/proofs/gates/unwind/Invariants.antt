@@ -1,5 +1,5 @@
 use Rattle.std.proofs.Common.{◌≡◌, length}
-use Rattle.vlog_parse.specs.Machine.{held, unwound, unwound_frames}
+use Rattle.vlog_parse.specs.inner.Machine.{held, unwound, unwound_frames}
 use Rattle.vlog_parse.proofs.gates.unwind.Given as goal
 
 abbrev pub invariant-loop-frame : goal.invariant-loop-frame

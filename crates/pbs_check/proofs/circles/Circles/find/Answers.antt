@@ -2,7 +2,7 @@ use Rattle.std.proofs.Common.{◌≡◌, ℕ, List, Option, Some, None, refl, su
 use Rattle.std.specs.Prelude.{slice_get}
 use Rattle.std.proofs.lemmas.Option.{slice_get_within}
 use Rattle.std.proofs.lemmas.Bool.{iff_false}
-use Rattle.pbs_check.specs.Searching.{Spreads}
+use Rattle.pbs_check.specs.inner.Searching.{Spreads}
 use Rattle.pbs_check.proofs.CircleLemmas.{rooted_at, no_circle, not_searched, circles_more, keeps_roots, has_root}
 use Rattle.pbs_check.proofs.circles.Circles.find.Goals as goal
 

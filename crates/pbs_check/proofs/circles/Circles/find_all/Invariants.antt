@@ -1,5 +1,5 @@
 use Rattle.std.proofs.Common.{ℕ, ◌<◌}
-use Rattle.pbs_check.specs.Circles.{AreCircles, HasRoot}
+use Rattle.pbs_check.specs.inner.Circles.{AreCircles, HasRoot}
 use Rattle.pbs_check.proofs.circles.Circles.find_all.Given as goal
 
 abbrev pub invariant-loop-root : goal.invariant-loop-root

@@ -3,7 +3,7 @@ use Rattle.std.specs.Global.{Vec}
 use Rattle.pbs_rules.specs.Naming.{index_of, prod_names}
 use Rattle.pbs_rules.specs.Numbers.{number_in}
 use Rattle.pbs_check.specs.declared.graph.Link.{Link}
-use Rattle.pbs_check.specs.Links.{AreTargets, AreUsers}
+use Rattle.pbs_check.specs.inner.Links.{AreTargets, AreUsers}
 use Rattle.pbs_check.proofs.NumberLemmas.{same_links}
 use Rattle.pbs_check.proofs.graph.Graph.new.Goals as goal
 

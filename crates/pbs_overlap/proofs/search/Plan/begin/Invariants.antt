@@ -1,4 +1,4 @@
-use Rattle.pbs_overlap.specs.Search.{Between, IsStart, Visits}
+use Rattle.pbs_overlap.specs.inner.Search.{Between, IsStart, Visits}
 use Rattle.pbs_overlap.proofs.search.Plan.begin.Given as goal
 
 abbrev pub invariant-loop-k : goal.invariant-loop-k

@@ -1,5 +1,5 @@
 use Rattle.pbs_overlap.proofs.Least.{lowest_more}
-use Rattle.pbs_overlap.specs.Lowest.{RefusesWith}
+use Rattle.pbs_overlap.specs.inner.Lowest.{RefusesWith}
 use Rattle.pbs_overlap.proofs.search.Plan.lowest_refused.Goals as goal
 
 pub loop-j-preserved : goal.loop-j-preserved

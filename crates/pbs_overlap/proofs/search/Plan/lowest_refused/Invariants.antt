@@ -1,5 +1,5 @@
-use Rattle.pbs_overlap.specs.Search.{Between}
-use Rattle.pbs_overlap.specs.Lowest.{IsLowest, RefusesWith}
+use Rattle.pbs_overlap.specs.inner.Search.{Between}
+use Rattle.pbs_overlap.specs.inner.Lowest.{IsLowest, RefusesWith}
 use Rattle.pbs_overlap.proofs.search.Plan.lowest_refused.Given as goal
 
 abbrev pub invariant-loop-j : goal.invariant-loop-j

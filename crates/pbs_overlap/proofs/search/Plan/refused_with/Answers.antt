@@ -1,5 +1,5 @@
 use Rattle.pbs_overlap.proofs.Least.{lowest_more, lowest_one}
-use Rattle.pbs_overlap.specs.Lowest.{Refuses}
+use Rattle.pbs_overlap.specs.inner.Lowest.{Refuses}
 use Rattle.pbs_overlap.proofs.search.Plan.refused_with.Goals as goal
 
 pub loop-i-preserved : goal.loop-i-preserved

@@ -1,5 +1,5 @@
-use Rattle.pbs_overlap.specs.Search.{Between}
-use Rattle.pbs_overlap.specs.Lowest.{IsLowest, Refuses}
+use Rattle.pbs_overlap.specs.inner.Search.{Between}
+use Rattle.pbs_overlap.specs.inner.Lowest.{IsLowest, Refuses}
 use Rattle.pbs_overlap.proofs.search.Plan.refused_with.Given as goal
 
 abbrev pub invariant-loop-i : goal.invariant-loop-i

@@ -1,5 +1,5 @@
 use Rattle.std.proofs.Common.{◌*◌, ◌-◌}
-use Rattle.pbs_overlap.specs.Search.{Searching}
+use Rattle.pbs_overlap.specs.inner.Search.{Searching}
 use Rattle.pbs_overlap.proofs.search.Plan.search.Given as goal
 
 abbrev pub invariant-loop-next : goal.invariant-loop-next

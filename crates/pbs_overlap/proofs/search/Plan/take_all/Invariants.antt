@@ -1,4 +1,4 @@
-use Rattle.pbs_overlap.specs.Search.{Between, TakenWith, Visits, first_at}
+use Rattle.pbs_overlap.specs.inner.Search.{Between, TakenWith, Visits, first_at}
 use Rattle.pbs_overlap.proofs.search.Plan.take_all.Given as goal
 
 abbrev pub invariant-loop-i : goal.invariant-loop-i

@@ -1,4 +1,4 @@
-use Rattle.pbs_overlap.specs.Search.{Between, Taken, Visits, first_at}
+use Rattle.pbs_overlap.specs.inner.Search.{Between, Taken, Visits, first_at}
 use Rattle.pbs_overlap.proofs.search.Plan.take_with.Given as goal
 
 abbrev pub invariant-loop-j : goal.invariant-loop-j

@@ -1,0 +1,4 @@
+pub mod Queues
+pub mod Rows
+pub mod Checks
+pub mod Ordered

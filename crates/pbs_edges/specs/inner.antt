@@ -1,0 +1,4 @@
+pub mod Rounds
+pub mod ByNumber
+pub mod Counting
+pub mod Ending

@@ -1,0 +1,2 @@
+pub mod DeclDescent
+pub mod TextDescent

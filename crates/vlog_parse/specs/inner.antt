@@ -1,0 +1,4 @@
+pub mod Lexing
+pub mod Places
+pub mod Steps
+pub mod Machine
