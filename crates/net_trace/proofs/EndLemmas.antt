@@ -2,8 +2,8 @@
 use Rattle.std.proofs.Common.{◌≡◌, ◌≤◌, ℕ, List, [], ◌∷◌, ◌++◌, length, option_map, Some}
 use Rattle.std.proofs.Common.{Result, Ok, Err, refl, sym, ap, ◌∙◌, arith}
 use Rattle.std.specs.Io.KnownBytes.{prepend_known}
-use Rattle.pbs_base.specs.Outside.{GoesOn, NamedFile, Opens, ShelfState, SinkState, SlotState, content_of}
-use Rattle.pbs_base.proofs.WrittenLemmas.{append_known-nil}
+use Rattle.pbs_io.specs.Outside.{GoesOn, NamedFile, Opens, ShelfState, SinkState, SlotState, content_of}
+use Rattle.pbs_io.proofs.WrittenLemmas.{append_known-nil}
 use Rattle.net_core.specs.Circuits.{Circuit}
 use Rattle.net_trace.specs.declared.fail.RunFail.{RunFail}
 use Rattle.net_trace.specs.declared.fail.RunFail.TheVariants as fails

@@ -1,7 +1,7 @@
 -- How a report is finished.
 use Rattle.std.proofs.Common.{◌≡◌, ℕ, true, List, [], ◌∷◌, ◌++◌, Some, None, Result, Ok, Err, refl}
 use Rattle.std.proofs.Common.{sym, ap, subst, ◌∙◌, append-nil}
-use Rattle.pbs_base.specs.Outside.{SinkState}
+use Rattle.pbs_io.specs.Outside.{SinkState}
 use Rattle.pbs_base.specs.declared.entry.Entry.{Entry}
 use Rattle.pbs_base.specs.declared.refusal.Refusal.{Refusal}
 use Rattle.net_core.specs.Circuits.{Circuit}

@@ -5,7 +5,7 @@ use Rattle.std.proofs.Common.{append-nil, length-append, arith}
 use Rattle.std.proofs.lemmas.Bool.Decides.{nat_tests}
 use Rattle.std.proofs.lemmas.List.{drop_all, length-take}
 use Rattle.std.specs.Io.KnownBytes.{IsAtEnd, prepend_known}
-use Rattle.pbs_base.specs.Outside.{Reads, ShelfState}
+use Rattle.pbs_io.specs.Outside.{Reads, ShelfState}
 use Rattle.pbs_base.specs.declared.refusal.Refusal.{Refusal}
 use Rattle.trace_reader.specs.Traces.{Rows, lines, rows}
 use Rattle.trace_reader.specs.Headers.{Header, NoHeader, Order, Refusing, Traced, header, headed, trace, trace_of}

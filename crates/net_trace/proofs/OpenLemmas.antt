@@ -4,9 +4,9 @@ use Rattle.std.proofs.Common.{Result}
 use Rattle.std.proofs.Common.{Ok, Err, refl, sym, ap, subst, ◌∙◌, arith}
 use Rattle.std.proofs.lemmas.List.{drop-take}
 use Rattle.std.specs.Io.KnownBytes.{IsAtEnd, prepend_known}
-use Rattle.pbs_base.specs.Outside.{ShelfState, SinkState}
+use Rattle.pbs_io.specs.Outside.{ShelfState, SinkState}
 use Rattle.pbs_base.specs.declared.refusal.Refusal.{Refusal}
-use Rattle.pbs_base.proofs.WrittenLemmas.{append_known-nil}
+use Rattle.pbs_io.proofs.WrittenLemmas.{append_known-nil}
 use Rattle.net_core.specs.Circuits.{Circuit}
 use Rattle.trace_reader.specs.Headers.{NoHeader, trace}
 use Rattle.trace_reader.specs.States.{ReaderState, has_newline, rows_from}

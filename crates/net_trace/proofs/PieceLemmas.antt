@@ -3,7 +3,7 @@ use Rattle.std.proofs.Common.{◌≡◌, ◌<◌, ◌≤◌, ◌+◌, ℕ, false
 use Rattle.std.proofs.Common.{Some, None, Result, ◌-◌, Ok, Err, refl, sym, ap, subst, ◌∙◌, append-nil, arith}
 use Rattle.trace_reader.specs.Traces as traces
 use Rattle.std.proofs.lemmas.List.{drop-drop, drop_all, length-drop, take_all}
-use Rattle.pbs_base.specs.Outside.{SinkState}
+use Rattle.pbs_io.specs.Outside.{SinkState}
 use Rattle.pbs_base.specs.declared.entry.Entry.{Entry}
 use Rattle.pbs_base.specs.declared.refusal.Refusal.{Refusal}
 use Rattle.net_core.specs.Circuits.{Circuit}

@@ -3,9 +3,9 @@ use Rattle.std.proofs.Common.{◌≡◌, ◌<◌, ◌≤◌, ◌+◌, ℕ, suc, 
 use Rattle.std.proofs.Common.{refl, sym, ap, subst, ◌∙◌, append-nil, arith}
 use Rattle.std.specs.Prelude.{slice_index_or, OnOk, OnErr}
 use Rattle.std.specs.Io.KnownBytes.{append_known}
-use Rattle.pbs_base.specs.Outside.{SinkState, Writes, WritesFront}
+use Rattle.pbs_io.specs.Outside.{SinkState, Writes, WritesFront}
 use Rattle.pbs_base.specs.declared.entry.Entry.{Entry}
-use Rattle.pbs_base.proofs.WrittenLemmas.{append_known-nil}
+use Rattle.pbs_io.proofs.WrittenLemmas.{append_known-nil}
 use Rattle.net_core.specs.Rows.{Row}
 use Rattle.net_core.specs.Circuits.{Circuit, IsCircuit, output_gate, output_names}
 use Rattle.net_core.specs.Runs.{output_value}

@@ -5,7 +5,7 @@ use Rattle.std.proofs.Common.{length-append, arith}
 use Rattle.std.proofs.lemmas.Option.{same_Some}
 use Rattle.std.proofs.lemmas.List.{length-take}
 use Rattle.std.specs.Io.KnownBytes.{IsAtEnd, prepend_known}
-use Rattle.pbs_base.specs.Outside.{Reads, ShelfState, SinkState, Rose}
+use Rattle.pbs_io.specs.Outside.{Reads, ShelfState, SinkState, Rose}
 use Rattle.pbs_base.specs.declared.entry.Entry.{Entry}
 use Rattle.net_core.specs.Circuits.{Circuit}
 use Rattle.trace_reader.specs.Headers.{Traced, trace}

@@ -2,7 +2,7 @@
 use Rattle.std.specs.Prelude.{◌≡◌, ◌⊎◌, ◌++◌, ℕ, true, List, [], Option, Some, None, Result, Ok, Err}
 use Rattle.std.specs.Option.{ForSome}
 use Rattle.std.specs.Io.KnownBytes.{append_known, IsAtEnd}
-use Rattle.pbs_base.specs.Outside.{ShelfState, SlotState, SinkState, NamedFile, Rose, content_of, has_file}
+use Rattle.pbs_io.specs.Outside.{ShelfState, SlotState, SinkState, NamedFile, Rose, content_of, has_file}
 use Rattle.pbs_base.specs.declared.refusal.Refusal.{Refusal}
 use Rattle.net_core.specs.Circuits.{Circuit}
 use Rattle.net_trace.specs.declared.fail.RunFail.{RunFail}

@@ -1,6 +1,7 @@
 -- How much of a trace was taken from the shelf, and what is written by then.
 use Rattle.std.specs.Prelude.{◌≡◌, ℕ, ◌≤◌, true, false, List, [], ◌∷◌, ◌++◌, length, Some}
-use Rattle.pbs_base.specs.Outside.{SlotState}
+use Rattle.pbs_io.specs.Outside.{SlotState}
+use Rattle.pbs_io.specs.Taken.{TakenFrom}
 use Rattle.pbs_base.specs.declared.entry.Entry.{Entry}
 use Rattle.pbs_base.specs.declared.refusal.Refusal.{Refusal}
 use Rattle.net_core.specs.Rows.{Row}
@@ -13,24 +14,6 @@ use Rattle.trace_reader.specs.States.{has_newline}
 use Rattle.net_trace.specs.Outcomes.{shown_rows}
 
 -- ---- what was taken
-
--- these bytes of the text were taken from the slot, none where no file stands in it
-pub record Took (text : List ℕ) (slot : SlotState) (taken : List ℕ) : Type 0 where
-  pub rest : List ℕ
-  pub whole : taken ++ rest ≡ text
-  pub left : slot.stands ≡ true → slot.left ≡ Some rest
-  pub none : slot.stands ≡ false → taken ≡ []
-
--- the slot was left alone, or the text was opened in it and these bytes were taken
-pub data TakenFrom (text : List ℕ) (slot slot_now : SlotState) : List ℕ → Type 0 where
-  Untouched : slot_now ≡ slot → TakenFrom text slot slot_now []
-  Opened : {taken : List ℕ} → Took text slot_now taken → TakenFrom text slot slot_now taken
-
--- at most so many bytes of the text were taken
-pub record TakesAtMost (most : ℕ) (text : List ℕ) (slot slot_now : SlotState) : Type 0 where
-  pub taken : List ℕ
-  pub took : TakenFrom text slot slot_now taken
-  pub few : length taken ≤ most
 
 -- at most 65,536 bytes behind the newline of the header were taken
 pub record TakesLittle (text : List ℕ) (slot slot_now : SlotState) : Type 0 where

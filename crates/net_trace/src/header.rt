@@ -4,7 +4,8 @@ ghost use Rattle.trace_reader.specs.States.{start};
 ghost use Rattle.trace_reader.specs.declared.answers.Phase.TheVariants as phase;
 ghost use Rattle.net_trace.specs.inner.Steps.{Heads, OnlyReads};
 
-use pbs_base::{Refusal, Shelf, read_front};
+use pbs_base::Refusal;
+use pbs_io::{Shelf, read_front};
 use trace_reader::{Head, TraceReader};
 
 /// The bytes of a trace that are read, with one more: a line that isn't ended by then is refused.

@@ -1,7 +1,7 @@
 // The lines of a report, row by row.
 ghost use Rattle.std.specs.Prelude.{◌≡◌, ◌<◌, ◌≤◌, ◌+◌, ◌++◌, [], ◌∷◌, ℕ, List, length, false, slice_index_or};
 ghost use Rattle.std.specs.Prelude.{IfOk, OnOk, OnErr};
-ghost use Rattle.pbs_base.specs.Outside.{SinkState};
+ghost use Rattle.pbs_io.specs.Outside.{SinkState};
 ghost use Rattle.pbs_base.specs.declared.entry.Entry.{Entry as EntryValue};
 ghost use Rattle.net_core.specs.Circuits.{Circuit, output_gate};
 ghost use Rattle.net_eval.specs.States.{Steps};
@@ -14,7 +14,8 @@ use crate::report::Report;
 use net_core::Netlist;
 use net_eval::Sim;
 use net_eval::laws::simulation;
-use pbs_base::{Entry, Memory, Sink, WriteFail};
+use pbs_base::{Entry, Memory};
+use pbs_io::{Sink, WriteFail};
 use std::alloc::Global;
 use trace_text::{Held, hold_end, hold_row};
 

@@ -1,6 +1,6 @@
 // The rows of a trace.
 ghost use Rattle.std.specs.Prelude.{◌≡◌, ◌≢◌, ◌<◌, ◌≤◌, ◌+◌, ◌++◌, [], ℕ, List, length, Option, Ok, Err, OnOk};
-ghost use Rattle.pbs_base.specs.Outside.{SinkState};
+ghost use Rattle.pbs_io.specs.Outside.{SinkState};
 ghost use Rattle.pbs_base.specs.declared.entry.Entry.{Entry as EntryValue};
 ghost use Rattle.net_core.specs.Circuits.{Circuit};
 ghost use Rattle.trace_reader.specs.declared.answers.Phase.TheVariants as phase;
@@ -13,7 +13,8 @@ ghost use Rattle.net_trace.specs.inner.Steps.{Read, ReadAll, ReadingFailed, Refu
 use crate::fail::RunFail;
 use crate::header::BYTES;
 use crate::report::Report;
-use pbs_base::{Entry, Refusal, Shelf, Sink, read_front};
+use pbs_base::{Entry, Refusal};
+use pbs_io::{Shelf, Sink, read_front};
 use trace_reader::{Row, TraceReader};
 
 /// Whether more of a trace may follow.

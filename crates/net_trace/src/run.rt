@@ -1,7 +1,7 @@
 // The run of a netlist on a named trace.
 ghost use Rattle.std.specs.Prelude.{◌≡◌, ◌≢◌, ◌<◌, ◌≤◌, ℕ, List, [], length, drop, take, Option, Err};
 ghost use Rattle.std.specs.Option.{ForSome};
-ghost use Rattle.pbs_base.specs.Outside.{GoesOn, content_of};
+ghost use Rattle.pbs_io.specs.Outside.{GoesOn, content_of};
 ghost use Rattle.net_core.specs.Circuits.{Circuit};
 ghost use Rattle.trace_reader.specs.States.{start};
 ghost use Rattle.trace_reader.specs.declared.answers.Phase.TheVariants as phase;
@@ -16,7 +16,7 @@ use crate::header::{Headed, Unused, find_header};
 use crate::report::Report;
 use crate::rows::{finish, read_rows, write_piece};
 use net_core::Netlist;
-use pbs_base::{Shelf, Sink};
+use pbs_io::{Shelf, Sink};
 use std::alloc::Global;
 use trace_reader::TraceReader;
 

@@ -1,7 +1,7 @@
 // The program: it lends `run` the real files and standard output, and ends with its status.
 #![tactic(auto)]
 
-use pbs_base::{FileShelf, StdSink};
+use pbs_io::{FileShelf, StdSink};
 use pbs_cli::run;
 use std::env;
 use std::io::ErrorKind;

@@ -1,6 +1,1 @@
-pub mod WrittenLemmas
-pub mod ReadLemmas
-pub mod CallLemmas
-pub mod CabinetLemmas
-pub mod RefusalLemmas
 pub mod WordLemmas

@@ -1,11 +1,3 @@
 pub mod formers
 pub mod Entries
-pub mod Outside
-pub mod ReadAll
-pub mod Written
-pub mod Refusal
 pub mod Words
-pub mod Cabinet
-pub mod Memory
-pub mod Calm
-pub mod Real

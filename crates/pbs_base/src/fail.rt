@@ -1,11 +1,6 @@
-// The two failures that nobody can foresee.
+// The failure that nobody can foresee.
 use std::alloc::{AllocError, AllocFailed};
 use thiserror::Error;
-
-/// A device failed.
-#[derive(Clone, Copy, Debug, PartialEq, Eq, Error)]
-#[error("the device failed")]
-pub struct Failed;
 
 /// No memory was found.
 #[derive(Clone, Copy, Debug, PartialEq, Eq, Error)]

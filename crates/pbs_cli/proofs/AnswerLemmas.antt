@@ -1,11 +1,11 @@
 -- What is written where nothing more is read, and the first file.
 use Rattle.std.proofs.Common.{◌≡◌, ℕ, List, [], refl, sym, subst, inl, inr}
 use Rattle.std.specs.Io.KnownBytes.{append_known}
-use Rattle.pbs_base.specs.Outside.{ShelfState, SinkState, WritesFront}
-use Rattle.pbs_base.specs.Refusal.{refusal_line}
+use Rattle.pbs_io.specs.Outside.{ShelfState, SinkState, WritesFront}
+use Rattle.pbs_io.specs.Refusal.{refusal_line}
 use Rattle.pbs_base.specs.declared.refusal.Refusal.{Refusal}
 use Rattle.pbs_base.specs.declared.refusal.Subject.TheVariants.{Spec, Netlist}
-use Rattle.pbs_base.proofs.WrittenLemmas.{append_known-nil}
+use Rattle.pbs_io.proofs.WrittenLemmas.{append_known-nil}
 use Rattle.pbs_text.specs.Answers.{ByLength}
 use Rattle.vlog_text.specs.Reading as vlog
 use Rattle.pbs_engine.specs.Accepted.{Breaks, OnReading}

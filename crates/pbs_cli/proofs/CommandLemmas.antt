@@ -3,8 +3,8 @@ use Rattle.std.proofs.Common.{◌≡◌, ◌≤◌, ◌+◌, ℕ, true, List, []
 use Rattle.std.proofs.Common.{◌∙◌, arith}
 use Rattle.std.specs.Option.{ForSome}
 use Rattle.std.specs.Io.KnownBytes.{IsAtEnd}
-use Rattle.pbs_base.specs.Outside.{ShelfState, SlotState, SinkState, NamedFile, GoesOn, has_file}
-use Rattle.pbs_base.proofs.WrittenLemmas.{append_known-nil}
+use Rattle.pbs_io.specs.Outside.{ShelfState, SlotState, SinkState, NamedFile, GoesOn, has_file}
+use Rattle.pbs_io.proofs.WrittenLemmas.{append_known-nil}
 use Rattle.net_trace.specs.Taken.{TakenFrom, Untouched, TakesLittle, TakesAtMost, Stops, InHeader, InRows}
 use Rattle.net_trace.specs.Endings.{WroteTaken}
 use Rattle.pbs_engine.specs.Load.{HasFailed}

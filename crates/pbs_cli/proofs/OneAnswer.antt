@@ -1,6 +1,6 @@
 -- Each command but `compile` has one answer.
 use Rattle.std.proofs.Common.{◌≡◌, ◌≢◌, ◌∙◌, ℕ, List, refl, sym, ap, subst}
-use Rattle.pbs_base.specs.Outside.{NamedFile, content_of}
+use Rattle.pbs_io.specs.Outside.{NamedFile, content_of}
 use Rattle.pbs_base.specs.declared.refusal.Refusal.{Refusal}
 use Rattle.pbs_ast.specs.declared.syntax.Spec.{Spec}
 use Rattle.net_core.specs.Circuits.{Circuit, IsCircuit}

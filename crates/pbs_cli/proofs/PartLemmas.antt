@@ -1,8 +1,8 @@
 -- How the runs of the two kinds of texts are answered.
 use Rattle.std.proofs.Common.{◌≡◌, ◌≤◌, ℕ, List, Result, refl, subst, sym, ◌∙◌, arith}
 use Rattle.std.specs.Option.{ForSome}
-use Rattle.pbs_base.specs.Outside.{ShelfState, SinkState, NamedFile, GoesOn, content_of}
-use Rattle.pbs_base.specs.Refusal.{refusal_line}
+use Rattle.pbs_io.specs.Outside.{ShelfState, SinkState, NamedFile, GoesOn, content_of}
+use Rattle.pbs_io.specs.Refusal.{refusal_line}
 use Rattle.pbs_base.specs.declared.refusal.Refusal.{Refusal}
 use Rattle.net_core.specs.Circuits.{Circuit}
 use Rattle.vlog_text.specs.Reading as vlog

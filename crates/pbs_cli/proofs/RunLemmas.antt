@@ -3,10 +3,10 @@ use Rattle.std.proofs.Common.{◌≡◌, ◌≤◌, ℕ, List, [], ◌++◌, Opt
 use Rattle.std.proofs.Common.{refl, sym, ap, subst, ◌∙◌, inl, inr, arith, append_assoc, append-nil}
 use Rattle.std.specs.Option.{ForSome}
 use Rattle.std.specs.Io.KnownBytes.{append_known, IsAtEnd}
-use Rattle.pbs_base.specs.Outside.{ShelfState, SinkState, WritesFront}
-use Rattle.pbs_base.specs.Refusal.{refusal_line}
+use Rattle.pbs_io.specs.Outside.{ShelfState, SinkState, WritesFront}
+use Rattle.pbs_io.specs.Refusal.{refusal_line}
 use Rattle.pbs_base.specs.declared.refusal.Refusal.{Refusal}
-use Rattle.pbs_base.proofs.WrittenLemmas.{append_known-twice}
+use Rattle.pbs_io.proofs.WrittenLemmas.{append_known-twice}
 use Rattle.net_trace.specs.Outcomes.{Outcome}
 use Rattle.net_trace.specs.Taken.{Stops}
 use Rattle.net_trace.specs.Endings.{RunTask, RunEnds, WroteLines, WroteFront}

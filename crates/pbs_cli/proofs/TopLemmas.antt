@@ -1,8 +1,8 @@
 -- What the top call says where no device failed.
 use Rattle.std.proofs.Common.{◌≡◌, ◌≢◌, List, [], refl, sym, subst, ◌∙◌}
 use Rattle.std.specs.Option.{ForSome}
-use Rattle.pbs_base.specs.Outside.{ShelfState, SinkState, NamedFile, Rose}
-use Rattle.pbs_base.proofs.WrittenLemmas.{append_known-nil}
+use Rattle.pbs_io.specs.Outside.{ShelfState, SinkState, NamedFile, Rose}
+use Rattle.pbs_io.proofs.WrittenLemmas.{append_known-nil}
 use Rattle.pbs_cli.specs.Words.{Command}
 use Rattle.pbs_cli.specs.Words as words
 use Rattle.pbs_cli.specs.inner.Status.{code_of}

@@ -2,8 +2,8 @@
 use Rattle.std.specs.Prelude.{◌≡◌, ◌⊎◌, ◌++◌, ℕ, true, List, [], codes, Option, Some, None, ⊤}
 use Rattle.std.specs.Option.{ForSome}
 use Rattle.std.specs.Io.KnownBytes.{append_known, IsAtEnd}
-use Rattle.pbs_base.specs.Outside.{ShelfState, SinkState, NamedFile, Rose, content_of, has_file}
-use Rattle.pbs_base.specs.Refusal.{refusal_line}
+use Rattle.pbs_io.specs.Outside.{ShelfState, SinkState, NamedFile, Rose, content_of, has_file}
+use Rattle.pbs_io.specs.Refusal.{refusal_line}
 use Rattle.pbs_base.specs.declared.refusal.Refusal.{Refusal}
 use Rattle.pbs_ast.specs.declared.syntax.Spec.{Spec}
 use Rattle.net_core.specs.Circuits.{Circuit}

@@ -5,7 +5,7 @@ ghost use Rattle.pbs_cli.specs.Words.{Check};
 
 use crate::first::{First, accept, read_spec, refuse};
 use crate::status::Status;
-use pbs_base::{Shelf, Sink};
+use pbs_io::{Shelf, Sink};
 use pbs_engine::{EngineFail, check};
 use std::alloc::Global;
 

@@ -5,7 +5,7 @@ ghost use Rattle.pbs_cli.specs.Words.{Compile};
 
 use crate::first::{First, accept, read_spec, refuse};
 use crate::status::Status;
-use pbs_base::{Shelf, Sink};
+use pbs_io::{Shelf, Sink};
 use pbs_engine::{EngineFail, compile};
 use std::alloc::Global;
 

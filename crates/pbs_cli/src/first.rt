@@ -1,13 +1,14 @@
 // The first file of a command.
 ghost use Rattle.std.specs.Prelude.{◌≡◌, ◌<◌};
-ghost use Rattle.pbs_base.specs.Refusal.{refusal_line};
+ghost use Rattle.pbs_io.specs.Refusal.{refusal_line};
 ghost use Rattle.vlog_text.specs.Reading.{IsRefusedBy};
 ghost use Rattle.pbs_engine.specs.Accepted.{Breaks};
 ghost use Rattle.pbs_cli.specs.inner.Parts.{IsTooLong, ReadsFirst, WritesText, too_long};
 ghost use Rattle.pbs_cli.specs.declared.status.Status.TheVariants as status;
 
 use crate::status::Status;
-use pbs_base::{ReadFail, Refusal, Shelf, Sink, Span, Subject, write_all, write_refusal};
+use pbs_base::{Refusal, Span, Subject};
+use pbs_io::{ReadFail, Shelf, Sink, write_all, write_refusal};
 use pbs_engine::load;
 use std::alloc::Global;
 

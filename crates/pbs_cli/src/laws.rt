@@ -1,6 +1,6 @@
 //! That the answers are determined: a caller gets this as a clause of a call.
 ghost use Rattle.std.specs.Prelude.{◌≡◌, ◌≢◌, ℕ, List};
-ghost use Rattle.pbs_base.specs.Outside.{NamedFile};
+ghost use Rattle.pbs_io.specs.Outside.{NamedFile};
 ghost use Rattle.pbs_cli.specs.Answers.{Answer, Defines};
 ghost use Rattle.pbs_cli.specs.Words.{Command, Compile};
 

@@ -4,7 +4,7 @@ ghost use Rattle.pbs_cli.specs.inner.Parts.{Finishes};
 
 use crate::first::refuse;
 use crate::status::Status;
-use pbs_base::Sink;
+use pbs_io::Sink;
 use pbs_engine::RunFail;
 
 // Writes the line of the refusal in which a run ended.

@@ -7,7 +7,7 @@ use crate::first::{First, read_verilog, refuse};
 use crate::running::finish;
 use crate::status::Status;
 use net_core::Netlist;
-use pbs_base::{Shelf, Sink};
+use pbs_io::{Shelf, Sink};
 use pbs_engine::simulate;
 use std::alloc::Global;
 use vlog_read::{VlogFail, one_answer, read_netlist};

@@ -1,7 +1,7 @@
 // The top call.
 ghost use Rattle.std.specs.Prelude.{◌≡◌, ◌↔◌, ◌+◌, ◌<◌, ◌≤◌, ◌⊎◌, ◌≢◌, true};
 ghost use Rattle.std.specs.Option.{ForSome};
-ghost use Rattle.pbs_base.specs.Outside.{Rose};
+ghost use Rattle.pbs_io.specs.Outside.{Rose};
 ghost use Rattle.pbs_cli.specs.Words.{command_of, texts, Usage};
 ghost use Rattle.net_trace.specs.Endings.{WroteTaken};
 ghost use Rattle.net_trace.specs.Taken.{Stops, TakesAtMost, TakesLittle};
@@ -16,7 +16,7 @@ use crate::compiling::compile_file;
 use crate::simulating::sim_files;
 use crate::status::{Status, code};
 use crate::tracing::trace_files;
-use pbs_base::{Shelf, Sink};
+use pbs_io::{Shelf, Sink};
 use std::alloc::Global;
 
 /// Does what the words ask for, and answers the status with which the program ends: docs/FORMATS.md, "Statuses". A file

@@ -5,7 +5,7 @@ ghost use Rattle.pbs_cli.specs.Words.{Trace};
 use crate::first::{First, read_spec, refuse};
 use crate::running::finish;
 use crate::status::Status;
-use pbs_base::{Shelf, Sink};
+use pbs_io::{Shelf, Sink};
 use pbs_engine::trace;
 use std::alloc::Global;
 

@@ -4,8 +4,8 @@ use Rattle.std.proofs.Common.{None, Result, Ok, Err, refl, sym, ap, subst, â—Œâˆ
 use Rattle.std.proofs.lemmas.List.{length-map}
 use Rattle.pbs_base.specs.declared.entry.Entry.{Entry}
 use Rattle.pbs_base.specs.declared.refusal.Refusal.{Refusal}
-use Rattle.pbs_base.specs.Outside.{ShelfState, SlotState, SinkState, content_of}
-use Rattle.pbs_base.proofs.WrittenLemmas.{append_known-nil}
+use Rattle.pbs_io.specs.Outside.{ShelfState, SlotState, SinkState, content_of}
+use Rattle.pbs_io.proofs.WrittenLemmas.{append_known-nil}
 use Rattle.pbs_ast.specs.declared.syntax.Spec.{Spec}
 use Rattle.pbs_rules.specs.Naming.{action_names}
 use Rattle.net_core.specs.Rows.{Row}

@@ -1,4 +1,3 @@
-pub mod LoadLemmas
 pub mod FrontLemmas
 pub mod LawLemmas
 pub mod MadeLemmas

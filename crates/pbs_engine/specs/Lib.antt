@@ -1,4 +1,3 @@
-pub mod Load
 pub mod Accepted
 pub mod inner
 pub mod Right

@@ -1,6 +1,6 @@
 -- What the text of a specification gives on a trace.
 use Rattle.std.specs.Prelude.{◌≡◌, ℕ, suc, Bool, true, List, length, codes}
-use Rattle.pbs_base.specs.Outside.{ShelfState, NamedFile, content_of, has_file}
+use Rattle.pbs_io.specs.Outside.{ShelfState, NamedFile, content_of, has_file}
 use Rattle.pbs_base.specs.Entries.{since}
 use Rattle.pbs_base.specs.declared.entry.Entry.{Entry}
 use Rattle.pbs_base.specs.declared.refusal.Refusal.{Refusal}

@@ -1,7 +1,7 @@
 // Runs the controller of a specification on a trace.
 ghost use Rattle.std.specs.Prelude.{◌≡◌, ◌≢◌, ◌≤◌, Err};
 ghost use Rattle.std.specs.Option.{ForSome};
-ghost use Rattle.pbs_base.specs.Outside.{GoesOn, content_of};
+ghost use Rattle.pbs_io.specs.Outside.{GoesOn, content_of};
 ghost use Rattle.pbs_base.specs.declared.refusal.Refusal.{Refusal as RefusalValue};
 ghost use Rattle.net_trace.specs.declared.fail.RunFail.TheVariants as fails;
 ghost use Rattle.net_trace.specs.Endings.{RunEnds};
@@ -13,7 +13,7 @@ use crate::compiling::read_back;
 use crate::fail::EngineFail;
 use crate::laws::one_run;
 use net_trace::{RunFail, simulate};
-use pbs_base::{Shelf, Sink};
+use pbs_io::{Shelf, Sink};
 use std::alloc::Global;
 
 /// Compiles the specification, reads its Verilog back, and writes the report of that netlist on the named trace, which

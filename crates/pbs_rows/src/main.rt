@@ -1,7 +1,8 @@
 // Tries the worked rows of the commands: docs/ROWS.md. Each goes through `run` over files in memory.
 #![tactic(auto)]
 
-use pbs_base::{MemShelf, MemSink, Memory};
+use pbs_base::Memory;
+use pbs_io::{MemShelf, MemSink};
 use pbs_cli::run;
 use row_files::{Answer, Limits, NamedText, Subject, run_files};
 use std::alloc::Global;

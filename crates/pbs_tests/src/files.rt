@@ -1,7 +1,7 @@
 // Words, and files in memory, for the tests.
 ghost use Rattle.std.specs.Prelude.{◌<◌};
 
-use pbs_base::{MemShelf, MemSink};
+use pbs_io::{MemShelf, MemSink};
 use std::alloc::Global;
 use std::test::Fail;
 

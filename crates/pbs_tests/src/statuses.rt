@@ -1,6 +1,6 @@
 // The statuses over an outside that never fails: docs/FORMATS.md, "Statuses".
 use crate::files::{ONE, SEQUENCE, words};
-use pbs_base::{CalmShelf, CalmSink};
+use pbs_io::{CalmShelf, CalmSink};
 use pbs_cli::run;
 use std::test::Fail;
 

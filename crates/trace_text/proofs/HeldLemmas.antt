@@ -2,8 +2,8 @@
 use Rattle.std.proofs.Common.{◌≡◌, ◌≤◌, ℕ, List, [], ◌++◌, Result, Ok, Err, refl, sym, ap, subst, ◌∙◌, append_assoc}
 use Rattle.std.proofs.Common.{append-nil, arith, codes, decimal}
 use Rattle.std.specs.Io.KnownBytes.{append_known}
-use Rattle.pbs_base.specs.Outside.{SinkState, Writes, WritesFront}
-use Rattle.pbs_base.proofs.WrittenLemmas.{append_known-nil, append_known-twice}
+use Rattle.pbs_io.specs.Outside.{SinkState, Writes, WritesFront}
+use Rattle.pbs_io.proofs.WrittenLemmas.{append_known-nil, append_known-twice}
 use Rattle.trace_text.specs.Reports.{end_line}
 use Rattle.trace_text.specs.Held.{PassesOn, Holds}
 

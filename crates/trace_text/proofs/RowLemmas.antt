@@ -5,7 +5,7 @@ use Rattle.std.proofs.Common.{drop-cons, arith}
 use Rattle.std.specs.Prelude.{slice_get}
 use Rattle.std.proofs.lemmas.List.{drop_all}
 use Rattle.std.proofs.lemmas.Option.{slice_get_within, get_or_from_slice_get}
-use Rattle.pbs_base.specs.Outside.{SinkState}
+use Rattle.pbs_io.specs.Outside.{SinkState}
 use Rattle.trace_text.specs.Held.{Holds}
 use Rattle.trace_text.proofs.HeldLemmas.{HeldUpTo, held_before, piece_held, text_unheld, last_held}
 use Rattle.trace_text.specs.Reports.{names_on, or_dash, row_line}

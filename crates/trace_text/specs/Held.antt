@@ -1,7 +1,7 @@
 -- Bytes that are held back before they are written.
 use Rattle.std.specs.Prelude.{◌≡◌, ℕ, ◌≤◌, List, ◌++◌, Option, Result, OnOk, OnErr}
 use Rattle.std.specs.Io.KnownBytes.{append_known}
-use Rattle.pbs_base.specs.Outside.{SinkState, Rose, WritesFront}
+use Rattle.pbs_io.specs.Outside.{SinkState, Rose, WritesFront}
 
 -- a front of the text was written, and the rest of it is held
 pub record PassesOn (before now : Option (List ℕ)) (text held : List ℕ) : Type 0 where

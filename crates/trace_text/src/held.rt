@@ -1,9 +1,10 @@
 // Bytes that are held back, so that a sink is given long pieces.
 ghost use Rattle.std.specs.Prelude.{◌≡◌, ◌≤◌, ◌+◌, [], ◌++◌, length, vec_len, vec_capacity, IfOk, OnOk};
-ghost use Rattle.pbs_base.specs.Outside.{Writes};
+ghost use Rattle.pbs_io.specs.Outside.{Writes};
 ghost use Rattle.trace_text.specs.Held.{Holds};
 
-use pbs_base::{Memory, Sink, WriteFail, write_all};
+use pbs_base::Memory;
+use pbs_io::{Sink, WriteFail, write_all};
 use std::alloc::Global;
 
 /// How many bytes are held before they are written.

@@ -6,7 +6,8 @@ ghost use Rattle.trace_text.specs.Reports.{is_on, end_line, row_line};
 
 use crate::Held;
 use itoa::Buffer;
-use pbs_base::{Names, Sink, WriteFail};
+use pbs_base::Names;
+use pbs_io::{Sink, WriteFail};
 
 // Bit n of the number.
 fn bit(on: u128, n: usize) -> bool

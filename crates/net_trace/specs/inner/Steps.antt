@@ -2,7 +2,7 @@
 use Rattle.std.specs.Prelude.{◌≡◌, ℕ, ◌≤◌, ◌<◌, Bool, true, false, List, [], ◌∷◌, ◌++◌, length, drop, take}
 use Rattle.std.specs.Prelude.{Option, Some, None, Result, Ok, Err, slice_index_or}
 use Rattle.std.specs.Io.KnownBytes.{IsAtEnd, append_known, prepend_known}
-use Rattle.pbs_base.specs.Outside.{ShelfState, SinkState, Rose, WritesFront}
+use Rattle.pbs_io.specs.Outside.{ShelfState, SinkState, Rose, WritesFront}
 use Rattle.pbs_base.specs.declared.entry.Entry.{Entry}
 use Rattle.pbs_base.specs.declared.refusal.Refusal.{Refusal}
 use Rattle.net_core.specs.Rows.{Row}

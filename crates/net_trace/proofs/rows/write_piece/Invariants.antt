@@ -1,5 +1,5 @@
 use Rattle.std.proofs.Common.{◌≡◌, ◌≤◌, ◌+◌, ◌-◌, ℕ, List, ◌++◌, length, drop}
-use Rattle.pbs_base.specs.Outside.{SinkState}
+use Rattle.pbs_io.specs.Outside.{SinkState}
 use Rattle.pbs_base.specs.declared.entry.Entry.{Entry}
 use Rattle.net_core.specs.Circuits.{Circuit}
 use Rattle.trace_reader.specs.declared.answers.Phase.TheVariants as phase

@@ -1,5 +1,5 @@
 use Rattle.std.proofs.Common.{◌≡◌, subst, sym, refl}
-use Rattle.pbs_base.specs.Refusal.{refusal_line}
+use Rattle.pbs_io.specs.Refusal.{refusal_line}
 use Rattle.pbs_cli.specs.Words.{Check}
 use Rattle.pbs_cli.specs.Answers.{Answer, refused, Checks, OnBroken}
 use Rattle.pbs_cli.proofs.AnswerLemmas.{refuses, refused_not_accepted}

@@ -1,6 +1,6 @@
 use Rattle.std.proofs.Common.{Err}
 use Rattle.pbs_engine.specs.Load.{Loads}
-use Rattle.pbs_base.specs.declared.read.ReadFail.TheVariants.{TooLong}
+use Rattle.pbs_io.specs.declared.read.ReadFail.TheVariants.{TooLong}
 use Rattle.pbs_cli.proofs.first.read_first.Goals as goal
 
 pub returns-in-Err-TooLong : goal.returns-in-Err-TooLong

@@ -1,5 +1,5 @@
 use Rattle.std.proofs.Common.{◌≡◌, subst, sym, refl}
-use Rattle.pbs_base.specs.Refusal.{refusal_line}
+use Rattle.pbs_io.specs.Refusal.{refusal_line}
 use Rattle.pbs_base.specs.declared.refusal.Refusal.{Refusal}
 use Rattle.vlog_text.specs.Reading.{IsRefusedBy}
 use Rattle.pbs_cli.specs.Words.{Sim}

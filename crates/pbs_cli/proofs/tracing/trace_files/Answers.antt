@@ -1,5 +1,5 @@
 use Rattle.std.proofs.Common.{◌≡◌, subst, sym, refl}
-use Rattle.pbs_base.specs.Refusal.{refusal_line}
+use Rattle.pbs_io.specs.Refusal.{refusal_line}
 use Rattle.pbs_base.specs.declared.refusal.Refusal.{Refusal}
 use Rattle.pbs_engine.specs.Accepted.{IsNotRun, Broken}
 use Rattle.net_trace.specs.Outcomes as run

@@ -1,0 +1,10 @@
+pub mod Outside
+pub mod ReadAll
+pub mod Taken
+pub mod Load
+pub mod Written
+pub mod Refusal
+pub mod Cabinet
+pub mod Memory
+pub mod Calm
+pub mod Real
