@@ -5,12 +5,12 @@ use Rattle.std.proofs.Common.{append_assoc, length-append, if◌then◌else◌}
 use Rattle.std.proofs.lemmas.Bool.Decides.{nat_tests}
 use Rattle.pbs_base.specs.declared.refusal.Refusal.{Refusal}
 use Rattle.pbs_base.specs.declared.entry.Entry.{Entry}
-use Rattle.trace_reader.specs.Traces.{Ending, End, Refused}
-use Rattle.trace_reader.specs.Traces.{Found, Good, Wrong, Rows, bare, digits, entry, followed, is_digit}
-use Rattle.trace_reader.specs.Traces.{is_good, is_too_long, lines, refused, right, row, rows, wanted, wrong_row}
-use Rattle.trace_reader.specs.States.{IsInRow, ReaderState, has_newline, rows_from}
-use Rattle.trace_reader.proofs.LineLemmas.{bare_ended, lines_ended, lines_open}
-use Rattle.trace_reader.proofs.RowLemmas.{right_open}
+use Rattle.trace_text.specs.Traces.{Ending, End, Refused}
+use Rattle.trace_text.specs.Traces.{Found, Good, Wrong, Rows, bare, digits, entry, followed, is_digit}
+use Rattle.trace_text.specs.Traces.{is_good, is_too_long, lines, refused, right, row, rows, wanted, wrong_row}
+use Rattle.trace_text.specs.States.{IsInRow, ReaderState, has_newline, rows_from}
+use Rattle.trace_text.proofs.LineLemmas.{bare_ended, lines_ended, lines_open}
+use Rattle.trace_text.proofs.RowLemmas.{right_open}
 use Rattle.net_trace.proofs.TextLemmas.{cut, open_append}
 
 -- ---- where a row's refusal begins

@@ -7,8 +7,9 @@ use Rattle.pbs_io.proofs.WrittenLemmas.{append_known-nil}
 use Rattle.net_core.specs.Circuits.{Circuit}
 use Rattle.net_trace.specs.declared.fail.RunFail.{RunFail}
 use Rattle.net_trace.specs.declared.fail.RunFail.TheVariants as fails
-use Rattle.net_trace.specs.Taken.{InHeader, Opened, TakesAtMost, Took, Untouched}
-use Rattle.net_trace.specs.Endings.{RunEnds, net_task}
+use Rattle.pbs_io.specs.Taken.{Opened, TakesAtMost, Took, Untouched}
+use Rattle.net_trace.specs.Taken.{InHeader}
+use Rattle.net_trace.specs.Endings.{TaskEnds, net_task}
 use Rattle.net_trace.specs.inner.Steps.{OnlyReads, OpenedEnds, ReadingFailed, TakenOf}
 use Rattle.net_trace.proofs.OutcomeLemmas.{nothing_written}
 use Rattle.net_trace.proofs.StandLemmas.{told_rest}
@@ -23,7 +24,7 @@ pub untouched : (text : List ℕ) (slot : SlotState) → TakesAtMost 67108865 te
 untouched text slot = record { taken = []; took = Untouched refl; few = omega arith }
 
 pub no_memory_yet : (net : Circuit) (name : List ℕ) (shelf : ShelfState) (sink : SinkState)
-    → RunEnds (net_task net name shelf) shelf shelf sink sink (Err fails.Memory)
+    → TaskEnds (net_task name) net shelf shelf sink sink (Err fails.Memory)
 no_memory_yet net name shelf sink = (
   refl,
   λ files told. record {
@@ -45,11 +46,11 @@ not_opened a b name text e o = record {
 }
 
 pub open_failed : {T E : Type 0} (net : Circuit) (name : List ℕ) (a b : ShelfState) (sink : SinkState) (e : E)
-    → Opens {T = T} a b 1 name (Err e) → RunEnds (net_task net name a) a b sink sink (Err fails.ReadFault)
+    → Opens {T = T} a b 1 name (Err e) → TaskEnds (net_task name) net a b sink sink (Err fails.ReadFault)
 open_failed net name a b sink e o = (
   record {
     rose = o.cause;
-    never = λ calm has. (let h = o.never calm has.files has.are_told has.holds in cc);
+    never = λ calm files told has. (let h = o.never calm files told (has tt) in cc);
   },
   λ files told. record {
     front = nothing_written net sink (content_of files name);
@@ -99,7 +100,7 @@ took_of a b c name x files taken o r told is =
 pub run_ends : {T E : Type 0} (net : Circuit) (name : List ℕ) (a b c : ShelfState) (k m : SinkState) (x : T)
     (result : Result (Unit {0}) RunFail) → Opens {E = E} a b 1 name (Ok x) → OnlyReads b c
     → (result ≡ Err fails.ReadFault → ReadingFailed b c) → OpenedEnds net b c k m result
-    → RunEnds (net_task net name a) a c k m result
+    → TaskEnds (net_task name) net a c k m result
 run_ends net name a b c k m x (Ok done) o r failed e =
     (e.ends.0, λ files told. e.ends.1 (content_of files name) (content_left a b name x files o told))
 run_ends net name a b c k m x (Err (fails.Refused refusal)) o r failed e =
@@ -110,7 +111,7 @@ run_ends net name a b c k m x (Err fails.ReadFault) o r failed e =
     let f = failed refl in (
       record {
         rose = let one = o.goes_on.later in let rose = f.rose in omega arith;
-        never = λ calm has. f.never (o.goes_on.sound calm) o.stands;
+        never = λ calm files told has. f.never (o.goes_on.sound calm) o.stands;
       },
       λ files told. record {
         front = e.ends.0 (content_of files name) (content_left a b name x files o told);

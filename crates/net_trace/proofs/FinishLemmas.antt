@@ -5,11 +5,11 @@ use Rattle.pbs_io.specs.Outside.{SinkState}
 use Rattle.pbs_base.specs.declared.entry.Entry.{Entry}
 use Rattle.pbs_base.specs.declared.refusal.Refusal.{Refusal}
 use Rattle.net_core.specs.Circuits.{Circuit}
-use Rattle.trace_reader.specs.Traces as traces
-use Rattle.trace_reader.specs.Headers.{Traced, trace}
-use Rattle.trace_reader.specs.States.{ReaderState, ReadsRow}
-use Rattle.trace_reader.specs.declared.answers.Row as answers
-use Rattle.trace_reader.specs.declared.answers.Row.TheVariants as answer
+use Rattle.trace_text.specs.Traces as traces
+use Rattle.trace_text.specs.Headers.{Traced, trace}
+use Rattle.trace_text.specs.States.{ReaderState, ReadsRow}
+use Rattle.trace_text.specs.declared.answers.Row as answers
+use Rattle.trace_text.specs.declared.answers.Row.TheVariants as answer
 use Rattle.net_trace.specs.declared.fail.RunFail.{RunFail}
 use Rattle.net_trace.specs.declared.fail.RunFail.TheVariants as fails
 use Rattle.net_trace.specs.declared.report.Report.{Report}

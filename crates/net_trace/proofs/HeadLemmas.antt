@@ -7,12 +7,12 @@ use Rattle.std.proofs.lemmas.List.{drop_all, length-take}
 use Rattle.std.specs.Io.KnownBytes.{IsAtEnd, prepend_known}
 use Rattle.pbs_io.specs.Outside.{Reads, ShelfState}
 use Rattle.pbs_base.specs.declared.refusal.Refusal.{Refusal}
-use Rattle.trace_reader.specs.Traces.{Rows, lines, rows}
-use Rattle.trace_reader.specs.Headers.{Header, NoHeader, Order, Refusing, Traced, header, headed, trace, trace_of}
-use Rattle.trace_reader.specs.States.{IsInHeader, ReaderState, ReadsHead, has_newline, rows_from, start, trace_from}
-use Rattle.trace_reader.specs.declared.answers.Phase.TheVariants as phase
-use Rattle.trace_reader.specs.declared.answers.Head.TheVariants as head
-use Rattle.trace_reader.proofs.LineLemmas.{first_open, lines_ended}
+use Rattle.trace_text.specs.Traces.{Rows, lines, rows}
+use Rattle.trace_text.specs.Headers.{Header, NoHeader, Order, Refusing, Traced, header, headed, trace, trace_of}
+use Rattle.trace_text.specs.States.{IsInHeader, ReaderState, ReadsHead, has_newline, rows_from, start, trace_from}
+use Rattle.trace_text.specs.declared.answers.Phase.TheVariants as phase
+use Rattle.trace_text.specs.declared.answers.Head.TheVariants as head
+use Rattle.trace_text.proofs.LineLemmas.{first_open, lines_ended}
 use Rattle.net_trace.specs.inner.Steps.{Read, ReadAll}
 use Rattle.net_trace.proofs.TextLemmas.{cut, drop_line, open_append, traced_same}
 use Rattle.net_trace.proofs.StandLemmas.{at_end}

@@ -11,3 +11,4 @@ pub mod StandLemmas
 pub mod HeadLemmas
 pub mod OpenLemmas
 pub mod EndLemmas
+pub mod EndingLemmas

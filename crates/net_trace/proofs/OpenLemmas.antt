@@ -8,8 +8,8 @@ use Rattle.pbs_io.specs.Outside.{ShelfState, SinkState}
 use Rattle.pbs_base.specs.declared.refusal.Refusal.{Refusal}
 use Rattle.pbs_io.proofs.WrittenLemmas.{append_known-nil}
 use Rattle.net_core.specs.Circuits.{Circuit}
-use Rattle.trace_reader.specs.Headers.{NoHeader, trace}
-use Rattle.trace_reader.specs.States.{ReaderState, has_newline, rows_from}
+use Rattle.trace_text.specs.Headers.{NoHeader, trace}
+use Rattle.trace_text.specs.States.{ReaderState, has_newline, rows_from}
 use Rattle.net_trace.specs.declared.fail.RunFail.{RunFail}
 use Rattle.net_trace.specs.declared.fail.RunFail.TheVariants as fails
 use Rattle.net_trace.specs.Taken.{InHeader}

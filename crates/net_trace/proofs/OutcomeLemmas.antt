@@ -10,12 +10,12 @@ use Rattle.net_core.specs.Rows.{Row}
 use Rattle.net_core.specs.Circuits.{Circuit}
 use Rattle.net_eval.specs.Simulated.{IsZeroRun}
 use Rattle.trace_text.specs.Reports.{end_line}
-use Rattle.trace_reader.specs.Traces.{Ending, End, Refused}
-use Rattle.trace_reader.specs.Traces.{Rows}
-use Rattle.trace_reader.specs.Headers.{NoHeader, Traced, trace}
-use Rattle.trace_reader.specs.States.{IsInRow, ReaderState}
-use Rattle.net_trace.specs.Outcomes.{NetGives, OnHeader, OnRows, Outcome, ended, refused, shown_rows}
-use Rattle.net_trace.specs.Endings.{WroteFront, WroteLines}
+use Rattle.trace_text.specs.Traces.{Ending, End, Refused}
+use Rattle.trace_text.specs.Traces.{Rows}
+use Rattle.trace_text.specs.Headers.{NoHeader, Traced, trace}
+use Rattle.trace_text.specs.States.{IsInRow, ReaderState}
+use Rattle.net_trace.specs.Outcomes.{NetGives, OnHeader, OnRows, Outcome, ended, shown_rows}
+use Rattle.net_trace.specs.Endings.{CutShort, Wrote, lines_of, lines_with}
 use Rattle.net_trace.specs.Taken.{HasRows, InRows, NetRows, Stops}
 use Rattle.net_trace.specs.inner.Steps.{Read, ShownInPart, ShownWhole, after}
 use Rattle.net_trace.proofs.RunLemmas.{front_run, shown_front}
@@ -33,34 +33,31 @@ read_of entries ending = record { entries = entries; ending = ending }
 pub whole_report : (net : Circuit) (before now : SinkState) (text : List ℕ) (entries : List Entry) → Runs net
     → trace net.inputs text ≡ Traced (read_of entries End)
     → ShownWhole net before entries (end_line (length entries)) now
-    → WroteLines (NetGives net text) None before now
+    → Wrote (lines_with (NetGives net text) None) before now
 whole_report net before now text entries runs traced shown =
     let run = runs entries in
     record {
-      outcome = ended (shown_rows net run.0 (length entries)) (length entries) End;
-      given = OnRows (read_of entries End) traced run.0 run.1;
-      refusal_is = refl;
+      text = shown_rows net run.0 (length entries) ++ end_line (length entries);
+      defined = OnRows (read_of entries End) traced run.0 run.1;
       written = shown.written run.0 run.1;
     }
 
 pub refused_report : (net : Circuit) (before now : SinkState) (text : List ℕ) (entries : List Entry) (r : Refusal)
     → Runs net → trace net.inputs text ≡ Traced (read_of entries (Refused r)) → ShownWhole net before entries [] now
-    → WroteLines (NetGives net text) (Some r) before now
+    → Wrote (lines_with (NetGives net text) (Some r)) before now
 refused_report net before now text entries r runs traced shown =
     let run = runs entries in
     record {
-      outcome = ended (shown_rows net run.0 (length entries)) (length entries) (Refused r);
-      given = OnRows (read_of entries (Refused r)) traced run.0 run.1;
-      refusal_is = refl;
+      text = shown_rows net run.0 (length entries);
+      defined = OnRows (read_of entries (Refused r)) traced run.0 run.1;
       written = shown.written run.0 run.1 ∙ ap (append_known before.written) (append-nil _);
     }
 
 pub no_header : (net : Circuit) (sink : SinkState) (text : List ℕ) (r : Refusal) → trace net.inputs text ≡ NoHeader r
-    → WroteLines (NetGives net text) (Some r) sink sink
+    → Wrote (lines_with (NetGives net text) (Some r)) sink sink
 no_header net sink text r none = record {
-  outcome = refused r;
-  given = OnHeader none;
-  refusal_is = refl;
+  text = [];
+  defined = OnHeader none;
   written = sym (append_known-nil sink.written);
 }
 
@@ -100,21 +97,21 @@ begun net text entries more runs traced =
 
 front_of : (net : Circuit) (before now : SinkState) (text : List ℕ) (b : Outcome) (whole rest : List ℕ)
     → NetGives net text b → whole ++ rest ≡ b.lines → WritesFront before.written now.written whole
-    → WroteFront (NetGives net text) before now
+    → CutShort (lines_of (NetGives net text)) before now
 front_of net before now text b whole rest given lines cut = record {
   front = cut.front;
   written = cut.written;
   begins = inr (record {
-    outcome = b;
-    given = given;
+    text = b.lines;
+    defined = (b.refusal, given);
     rest = cut.rest ++ rest;
-    whole_is = sym (append_assoc cut.front cut.rest rest) ∙ (ap (λ l. l ++ rest) cut.whole ∙ lines);
+    whole = sym (append_assoc cut.front cut.rest rest) ∙ (ap (λ l. l ++ rest) cut.whole ∙ lines);
   });
 }
 
 pub cut_report : (net : Circuit) (before now : SinkState) (text : List ℕ) (entries : List Entry) (more : Rows)
     → Runs net → trace net.inputs text ≡ Traced (after entries more) → ShownInPart net before entries [] now
-    → WroteFront (NetGives net text) before now
+    → CutShort (lines_of (NetGives net text)) before now
 cut_report net before now text entries more runs traced shown =
     let b = begun net text entries more runs traced in
     front_of net before now text b.outcome (shown_rows net b.rows (length entries) ++ []) b.rest b.given
@@ -123,7 +120,7 @@ cut_report net before now text entries more runs traced shown =
 pub cut_at_end : (net : Circuit) (before now : SinkState) (text : List ℕ) (entries : List Entry) → Runs net
     → trace net.inputs text ≡ Traced (read_of entries End)
     → ShownInPart net before entries (end_line (length entries)) now
-    → WroteFront (NetGives net text) before now
+    → CutShort (lines_of (NetGives net text)) before now
 cut_at_end net before now text entries runs traced shown =
     let run = runs entries in
     front_of net before now text (ended (shown_rows net run.0 (length entries)) (length entries) End)
@@ -132,16 +129,21 @@ cut_at_end net before now text entries runs traced shown =
 
 pub all_shown : (net : Circuit) (before now : SinkState) (text : List ℕ) (entries : List Entry) (more : Rows)
     → Runs net → trace net.inputs text ≡ Traced (after entries more) → ShownWhole net before entries [] now
-    → WroteFront (NetGives net text) before now
+    → CutShort (lines_of (NetGives net text)) before now
 all_shown net before now text entries more runs traced shown =
     let b = begun net text entries more runs traced in
     record {
       front = shown_rows net b.rows (length entries);
       written = shown.written b.rows b.run ∙ ap (append_known before.written) (append-nil _);
-      begins = inr (record { outcome = b.outcome; given = b.given; rest = b.rest; whole_is = b.lines });
+      begins = inr (record {
+        text = b.outcome.lines;
+        defined = (b.outcome.refusal, b.given);
+        rest = b.rest;
+        whole = b.lines;
+      });
     }
 
-pub nothing_written : (net : Circuit) (sink : SinkState) (text : List ℕ) → WroteFront (NetGives net text) sink sink
+pub nothing_written : (net : Circuit) (sink : SinkState) (text : List ℕ) → CutShort (lines_of (NetGives net text)) sink sink
 nothing_written net sink text = record { front = []; written = sym (append_known-nil sink.written); begins = inl refl }
 
 -- ---- where reading stops

@@ -15,7 +15,7 @@ use Rattle.trace_text.specs.Held.{Holds, PassesOn}
 use Rattle.trace_text.specs.HeldBytes.{held_bytes}
 use Rattle.trace_text.specs.Reports.{is_on, end_line, row_line}
 use Rattle.trace_text.proofs.HeldLemmas.{HeldUpTo, piece_held, piece_unheld, all_flushed}
-use Rattle.trace_text.proofs.RowLemmas.{row_line-same}
+use Rattle.trace_text.proofs.ReportLemmas.{row_line-same}
 use Rattle.net_trace.specs.Outcomes.{shown_rows}
 use Rattle.net_trace.specs.inner.Steps.{IsNew, Shown, ShownInPart, ShownWhole, ShowsLine}
 use Rattle.net_trace.specs.declared.report.Report.{Report}

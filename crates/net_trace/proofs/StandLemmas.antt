@@ -8,8 +8,8 @@ use Rattle.std.specs.Io.KnownBytes.{IsAtEnd, prepend_known}
 use Rattle.pbs_io.specs.Outside.{Reads, ShelfState, SinkState, Rose}
 use Rattle.pbs_base.specs.declared.entry.Entry.{Entry}
 use Rattle.net_core.specs.Circuits.{Circuit}
-use Rattle.trace_reader.specs.Headers.{Traced, trace}
-use Rattle.trace_reader.specs.States.{IsInRow, ReaderState, rows_from}
+use Rattle.trace_text.specs.Headers.{Traced, trace}
+use Rattle.trace_text.specs.States.{IsInRow, ReaderState, rows_from}
 use Rattle.net_trace.specs.declared.fail.RunFail.{RunFail}
 use Rattle.net_trace.specs.declared.fail.RunFail.TheVariants as fails
 use Rattle.net_trace.specs.declared.report.Report.{Report}

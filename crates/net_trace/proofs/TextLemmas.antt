@@ -9,13 +9,13 @@ use Rattle.std.proofs.Math.Seq.{drop-nil}
 use Rattle.pbs_base.specs.declared.entry.Entry.{Entry}
 use Rattle.pbs_base.specs.declared.entry.Entry.TheVariants.{Vector, Reset}
 use Rattle.pbs_base.specs.declared.refusal.Refusal.{Refusal}
-use Rattle.trace_reader.specs.Traces.{Ending, End, Refused}
-use Rattle.trace_reader.specs.Traces.{Found, Good, Wrong, Rows, first_line, followed, lines, no_rows, row, rows}
-use Rattle.trace_reader.specs.Headers.{Trace, NoHeader, Traced, trace}
-use Rattle.trace_reader.specs.States.{ReaderState, ReadsRow, has_newline, rows_from}
-use Rattle.trace_reader.specs.declared.answers.Row as answers
-use Rattle.trace_reader.specs.declared.answers.Row.TheVariants as answer
-use Rattle.trace_reader.proofs.LineLemmas.{first_open, lines_begun, lines_ended}
+use Rattle.trace_text.specs.Traces.{Ending, End, Refused}
+use Rattle.trace_text.specs.Traces.{Found, Good, Wrong, Rows, first_line, followed, lines, no_rows, row, rows}
+use Rattle.trace_text.specs.Headers.{Trace, NoHeader, Traced, trace}
+use Rattle.trace_text.specs.States.{ReaderState, ReadsRow, has_newline, rows_from}
+use Rattle.trace_text.specs.declared.answers.Row as answers
+use Rattle.trace_text.specs.declared.answers.Row.TheVariants as answer
+use Rattle.trace_text.proofs.LineLemmas.{first_open, lines_begun, lines_ended}
 use Rattle.net_trace.specs.inner.Steps.{Read, ReadAll, after, entry_in}
 
 -- ---- rows

@@ -7,9 +7,9 @@ use Rattle.net_core.specs.Circuits.{Circuit, output_names}
 use Rattle.net_core.specs.Runs.{output_value}
 use Rattle.net_eval.specs.Simulated.{IsZeroRun}
 use Rattle.trace_text.specs.Reports.{end_line, rows_text}
-use Rattle.trace_reader.specs.Traces.{Ending, End, Refused}
-use Rattle.trace_reader.specs.Traces.{Rows}
-use Rattle.trace_reader.specs.Headers.{NoHeader, Traced, trace}
+use Rattle.trace_text.specs.Traces.{Ending, End, Refused}
+use Rattle.trace_text.specs.Traces.{Rows}
+use Rattle.trace_text.specs.Headers.{NoHeader, Traced, trace}
 
 -- the lines that are written, and the refusal in which they end, if they do
 pub record Outcome : Type 0 where

@@ -7,10 +7,10 @@ use Rattle.pbs_base.specs.declared.refusal.Refusal.{Refusal}
 use Rattle.net_core.specs.Rows.{Row}
 use Rattle.net_core.specs.Circuits.{Circuit}
 use Rattle.net_eval.specs.Simulated.{IsZeroRun}
-use Rattle.trace_reader.specs.Traces.{End, Refused}
-use Rattle.trace_reader.specs.Traces.{Rows}
-use Rattle.trace_reader.specs.Headers.{Traced, trace}
-use Rattle.trace_reader.specs.States.{has_newline}
+use Rattle.trace_text.specs.Traces.{End, Refused}
+use Rattle.trace_text.specs.Traces.{Rows}
+use Rattle.trace_text.specs.Headers.{Traced, trace}
+use Rattle.trace_text.specs.States.{has_newline}
 use Rattle.net_trace.specs.Outcomes.{shown_rows}
 
 -- ---- what was taken

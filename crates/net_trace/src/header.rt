@@ -1,12 +1,12 @@
 // The header of a trace.
 ghost use Rattle.std.specs.Prelude.{◌≡◌, ◌<◌, ◌≤◌, length};
-ghost use Rattle.trace_reader.specs.States.{start};
-ghost use Rattle.trace_reader.specs.declared.answers.Phase.TheVariants as phase;
+ghost use Rattle.trace_text.specs.States.{start};
+ghost use Rattle.trace_text.specs.declared.answers.Phase.TheVariants as phase;
 ghost use Rattle.net_trace.specs.inner.Steps.{Heads, OnlyReads};
 
 use pbs_base::Refusal;
 use pbs_io::{Shelf, read_front};
-use trace_reader::{Head, TraceReader};
+use trace_text::{Head, TraceReader};
 
 /// The bytes of a trace that are read, with one more: a line that isn't ended by then is refused.
 pub(crate) const BYTES: usize = 67_108_865;

@@ -3,7 +3,7 @@ ghost use Rattle.std.specs.Prelude.{◌≡◌, ◌≢◌, ◌<◌, ◌≤◌, �
 ghost use Rattle.pbs_io.specs.Outside.{SinkState};
 ghost use Rattle.pbs_base.specs.declared.entry.Entry.{Entry as EntryValue};
 ghost use Rattle.net_core.specs.Circuits.{Circuit};
-ghost use Rattle.trace_reader.specs.declared.answers.Phase.TheVariants as phase;
+ghost use Rattle.trace_text.specs.declared.answers.Phase.TheVariants as phase;
 ghost use Rattle.net_trace.specs.declared.fail.RunFail.TheVariants as fails;
 ghost use Rattle.net_trace.specs.declared.rows.Progress.TheVariants as progress;
 ghost use Rattle.net_trace.specs.inner.Steps.{Advances, Ends, EndsRows, FinishesLater, GoesOnReading, OnlyReads};
@@ -15,7 +15,7 @@ use crate::header::BYTES;
 use crate::report::Report;
 use pbs_base::{Entry, Refusal};
 use pbs_io::{Shelf, Sink, read_front};
-use trace_reader::{Row, TraceReader};
+use trace_text::{Row, TraceReader};
 
 /// Whether more of a trace may follow.
 #[derive(Clone, Copy, Debug, PartialEq, Eq)]

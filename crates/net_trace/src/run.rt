@@ -3,13 +3,13 @@ ghost use Rattle.std.specs.Prelude.{◌≡◌, ◌≢◌, ◌<◌, ◌≤◌, �
 ghost use Rattle.std.specs.Option.{ForSome};
 ghost use Rattle.pbs_io.specs.Outside.{GoesOn, content_of};
 ghost use Rattle.net_core.specs.Circuits.{Circuit};
-ghost use Rattle.trace_reader.specs.States.{start};
-ghost use Rattle.trace_reader.specs.declared.answers.Phase.TheVariants as phase;
+ghost use Rattle.trace_text.specs.States.{start};
+ghost use Rattle.trace_text.specs.declared.answers.Phase.TheVariants as phase;
 ghost use Rattle.net_trace.specs.declared.fail.RunFail.TheVariants as fails;
-ghost use Rattle.net_trace.specs.Endings.{RunEnds, net_task};
+ghost use Rattle.net_trace.specs.Endings.{TaskEnds, net_task};
 ghost use Rattle.net_trace.specs.inner.Steps.{Begins, EndsRows, FinishesLater, IsNew, OnlyReads, OpenedEnds, ReadAll};
 ghost use Rattle.net_trace.specs.inner.Steps.{ReadingFailed};
-ghost use Rattle.net_trace.specs.Taken.{TakesAtMost};
+ghost use Rattle.pbs_io.specs.Taken.{TakesAtMost};
 
 use crate::fail::RunFail;
 use crate::header::{Headed, Unused, find_header};
@@ -18,7 +18,7 @@ use crate::rows::{finish, read_rows, write_piece};
 use net_core::Netlist;
 use pbs_io::{Shelf, Sink};
 use std::alloc::Global;
-use trace_reader::TraceReader;
+use trace_text::TraceReader;
 
 /// How many bytes are read at a time, at most.
 const BUFFER: usize = 65_536;
@@ -109,7 +109,7 @@ pub fn simulate<S: Shelf, K: Sink>(
     ensures goes_on { GoesOn (S.state shelf.old) (S.state shelf.new) }
     ensures other { (S.state shelf.new).slots 0 ≡ (S.state shelf.old).slots 0 }
     ensures later { (K.state sink.old).faults ≤ (K.state sink.new).faults }
-    ensures ends { RunEnds (net_task net.now name.now (S.state shelf.old)) (S.state shelf.old) (S.state shelf.new)
+    ensures ends { TaskEnds (net_task name.now) net.now (S.state shelf.old) (S.state shelf.new)
         (K.state sink.old) (K.state sink.new) result }
     ensures few { ForSome (S.state shelf.old).files (λ files. TakesAtMost 67108865 (content_of files name.now)
         ((S.state shelf.old).slots 1) ((S.state shelf.new).slots 1)) }

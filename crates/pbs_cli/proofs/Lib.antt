@@ -1,7 +1,6 @@
-pub mod AnswerLemmas
+pub mod JobLemmas
+pub mod FirstLemmas
 pub mod RunLemmas
-pub mod CommandLemmas
-pub mod PartLemmas
 pub mod TopLemmas
 pub mod OneRun
 pub mod OneAnswer

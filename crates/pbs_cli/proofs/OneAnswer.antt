@@ -6,12 +6,12 @@ use Rattle.pbs_ast.specs.declared.syntax.Spec.{Spec}
 use Rattle.net_core.specs.Circuits.{Circuit, IsCircuit}
 use Rattle.net_eval.specs.Assignments.{HasOneAssignment}
 use Rattle.vlog_text.specs.Reading as vlog
-use Rattle.net_trace.specs.Outcomes.{Outcome, NetGives}
+use Rattle.net_trace.specs.Outcomes.{Outcome, NetGives, refused}
+use Rattle.net_trace.specs.Endings.{trace_text}
 use Rattle.pbs_engine.specs.Accepted.{Breaks, IsAccepted}
-use Rattle.pbs_engine.specs.Outcomes.{TextGives}
-use Rattle.pbs_cli.specs.Words.{Command, Check, Compile, Sim, Trace, Usage}
-use Rattle.pbs_cli.specs.Answers.{Answer, refused, ended, Checks, OnAccepted, OnBroken, Traces, OnOutcome, Defines}
-use Rattle.pbs_cli.specs.Answers.{Simulates, OnNetlist, OnBadNetlist}
+use Rattle.pbs_engine.specs.Outcomes.{TextGives, NetlistGives, OfNetlist, OfBadNetlist}
+use Rattle.pbs_cli.specs.Words.{Job, Check, Compile, Sim, Trace, Command, Run, Usage}
+use Rattle.pbs_cli.specs.Answers.{Answer, Answers, OnOutcome, Checks, OnAccepted, OnBroken, Defines, answered, task_of}
 use Rattle.pbs_cli.proofs.OneRun as run
 
 -- the laws of what is accepted, of what a netlist stands for and of what a trace gives
@@ -25,35 +25,40 @@ pub record OneEach : Type 0 where
   pub row : (net : Circuit) → IsCircuit net → HasOneAssignment net
   pub wired : (text : List ℕ) (net : Circuit) → vlog.StandsFor text net → IsCircuit net
 
-one_check : OneEach → (text : List ℕ) (a b : Answer) → Checks text a → Checks text b → a ≡ b
-one_check one text a b (OnAccepted spec p) (OnAccepted other q) = refl
-one_check one text a b (OnAccepted spec p) (OnBroken {r} q) = absurd (one.apart text spec r p q)
-one_check one text a b (OnBroken {r} p) (OnAccepted spec q) = absurd (one.apart text spec r q p)
-one_check one text a b (OnBroken p) (OnBroken q) = ap refused (one.refusal text _ _ p q)
+one_check : OneEach → (text : List ℕ) (o p : Outcome) → Checks text o → Checks text p → o ≡ p
+one_check one text o p (OnAccepted spec a) (OnAccepted other b) = refl
+one_check one text o p (OnAccepted spec a) (OnBroken {r} b) = absurd (one.apart text spec r a b)
+one_check one text o p (OnBroken {r} a) (OnAccepted spec b) = absurd (one.apart text spec r b a)
+one_check one text o p (OnBroken a) (OnBroken b) = ap refused (one.refusal text _ _ a b)
 
-one_trace : OneEach → (text trace : List ℕ) (a b : Answer) → Traces text trace a → Traces text trace b → a ≡ b
-one_trace one text trace a b (OnOutcome o p) (OnOutcome other q) =
-    ap (λ (x : Outcome). ended x.lines x.refusal) (one.outcome text trace o other p q)
+one_netlist : OneEach → (text trace : List ℕ) (o p : Outcome) → NetlistGives text trace o → NetlistGives text trace p
+    → o ≡ p
+one_netlist one text trace o p (OfNetlist net a x given) (OfNetlist other b y given_too) =
+    let here = subst (λ c. NetGives c trace x) (one.net text net other a b) given in
+    let ok = one.wired text other b in
+    run.one_outcome other ok (one.row other ok) trace x y here given_too
+one_netlist one text trace o p (OfNetlist net a x given) (OfBadNetlist {r} b) =
+    absurd (one.net_apart text net r a b)
+one_netlist one text trace o p (OfBadNetlist {r} a) (OfNetlist net b x given) =
+    absurd (one.net_apart text net r b a)
+one_netlist one text trace o p (OfBadNetlist a) (OfBadNetlist b) = ap refused (one.bad_net text _ _ a b)
 
-one_sim : OneEach → (netlist trace : List ℕ) → (a b : Answer) → Simulates netlist trace a → Simulates netlist trace b → a ≡ b
-one_sim one netlist trace a b (OnNetlist net p o given) (OnNetlist other q o_too given_too) =
-    let here = subst (λ c. NetGives c trace o) (one.net netlist net other p q) given in
-    let ok = one.wired netlist other q in
-    ap (λ (x : Outcome). ended x.lines x.refusal)
-    (run.one_outcome other ok (one.row other ok) trace o o_too here given_too)
-one_sim one netlist trace a b (OnNetlist net p o given) (OnBadNetlist {r} q) =
-    absurd (one.net_apart netlist net r p q)
-one_sim one netlist trace a b (OnBadNetlist {r} p) (OnNetlist net q o given) =
-    absurd (one.net_apart netlist net r q p)
-one_sim one netlist trace a b (OnBadNetlist p) (OnBadNetlist q) = ap refused (one.bad_net netlist _ _ p q)
+one_gives : OneEach → (job : Job) (text trace : List ℕ) (o p : Outcome) → job ≢ Compile
+    → (task_of job).gives text trace o → (task_of job).gives text trace p → o ≡ p
+one_gives one Check text trace o p other a b = one_check one text o p a b
+one_gives one Compile text trace o p other a b = absurd (other refl)
+one_gives one (Sim name) text trace o p other a b = one_netlist one text trace o p a b
+one_gives one (Trace name) text trace o p other a b = one.outcome text trace o p a b
+
+one_job : OneEach → (job : Job) (text trace : List ℕ) (a b : Answer) → job ≢ Compile
+    → Answers ((task_of job).gives text trace) a → Answers ((task_of job).gives text trace) b → a ≡ b
+one_job one job text trace a b other (OnOutcome o x) (OnOutcome p y) =
+    ap (λ (x : Outcome). answered x.lines x.refusal) (one_gives one job text trace o p other x y)
 
 pub one_defined : OneEach → (command : Command) (files : List NamedFile) (a b : Answer)
-    → ((spec : List ℕ) → command ≢ Compile spec) → Defines command files a
+    → ((spec : List ℕ) → command ≢ Run Compile spec) → Defines command files a
     → Defines command files b → a ≡ b
-one_defined one (Check spec) files a b other p q = one_check one (content_of files spec) a b p q
-one_defined one (Compile spec) files a b other p q = absurd (other spec refl)
-one_defined one (Sim netlist trace) files a b other p q =
-    one_sim one (content_of files netlist) (content_of files trace) a b p q
-one_defined one (Trace spec trace) files a b other p q =
-    one_trace one (content_of files spec) (content_of files trace) a b p q
+one_defined one (Run job first) files a b other p q =
+    one_job one job (content_of files first) (trace_text (task_of job).trace files) a b
+    (λ is. other first (ap (λ j. Run j first) is)) p q
 one_defined one Usage files a b other p q = p ∙ sym q

@@ -16,8 +16,8 @@ use Rattle.net_eval.specs.Assignments.{Agree, HasOneAssignment}
 use Rattle.net_eval.specs.Simulated.{IsZeroRun}
 use Rattle.net_eval.proofs.Agreeing.{value_agree, some_at}
 use Rattle.trace_text.specs.Reports.{names_on, or_dash, row_line, rows_text}
-use Rattle.trace_reader.specs.Traces.{Rows}
-use Rattle.trace_reader.specs.Headers.{Trace, NoHeader, Traced}
+use Rattle.trace_text.specs.Traces.{Rows}
+use Rattle.trace_text.specs.Headers.{Trace, NoHeader, Traced}
 use Rattle.net_trace.specs.Outcomes.{Outcome, NetGives, OnHeader, OnRows, refused, ended, shown_rows}
 
 -- ---- two runs in which the registers before row 0, and the inputs in row 0 and in rows of resets, are 0

@@ -1,18 +1,18 @@
-//! That the answers are determined: a caller gets this as a clause of a call.
+//! That answers are determined: a caller gets this as a clause of a call.
 ghost use Rattle.std.specs.Prelude.{◌≡◌, ◌≢◌, ℕ, List};
 ghost use Rattle.pbs_io.specs.Outside.{NamedFile};
 ghost use Rattle.pbs_cli.specs.Answers.{Answer, Defines};
-ghost use Rattle.pbs_cli.specs.Words.{Command, Compile};
+ghost use Rattle.pbs_cli.specs.Words.{Command, Compile, Run};
 
 use net_eval::laws::one_assignment;
 use pbs_engine::laws::{one_check, one_outcome};
 use vlog_read::laws::stands_for_circuit;
 use vlog_read::one_answer as one_netlist;
 
-/// A command other than `compile` has one answer over files that are told.
+/// A command other than `compile` has at most one answer over files that are told.
 pub fn one_answer()
     ensures { (command : Command) (files : List NamedFile) (a b : Answer)
-        → ((spec : List ℕ) → command ≢ Compile spec)
+        → ((spec : List ℕ) → command ≢ Run Compile spec)
         → Defines command files a → Defines command files b → a ≡ b }
 {
     one_check();

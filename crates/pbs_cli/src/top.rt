@@ -1,21 +1,21 @@
 // The top call.
-ghost use Rattle.std.specs.Prelude.{◌≡◌, ◌↔◌, ◌+◌, ◌<◌, ◌≤◌, ◌⊎◌, ◌≢◌, true};
+ghost use Rattle.std.specs.Prelude.{◌≡◌, ◌↔◌, ◌+◌, ◌<◌, ◌≤◌, ◌⊎◌, ◌≢◌, Some, true};
 ghost use Rattle.std.specs.Option.{ForSome};
 ghost use Rattle.pbs_io.specs.Outside.{Rose};
+ghost use Rattle.pbs_io.specs.Taken.{TakesAtMost};
+ghost use Rattle.net_trace.specs.Endings.{CutShort, Wrote, WroteTaken};
+ghost use Rattle.net_trace.specs.Taken.{Stops, TakesLittle};
 ghost use Rattle.pbs_cli.specs.Words.{command_of, texts, Usage};
-ghost use Rattle.net_trace.specs.Endings.{WroteTaken};
-ghost use Rattle.net_trace.specs.Taken.{Stops, TakesAtMost, TakesLittle};
-ghost use Rattle.pbs_cli.specs.Answers.{Wrote, CutShort, Defines, NeedsFiles, NeedsNoSecond, HasNeeded};
-ghost use Rattle.pbs_cli.specs.Answers.{DueRows, ReadToEnd, first_of, first_most, trace_of};
-ghost use Rattle.pbs_cli.specs.inner.Parts.{EndsCommand};
+ghost use Rattle.pbs_cli.specs.Answers.{Defines, DueRows, HasNeeded, NeedsFile, NeedsNoSecond, ReadToEnd};
+ghost use Rattle.pbs_cli.specs.Answers.{first_of, first_most, texts_of, texts_with, trace_of};
+ghost use Rattle.pbs_cli.specs.inner.Parts.{Attempts, EndsCommand, job_meant, meant};
 ghost use Rattle.pbs_cli.specs.declared.status.Status.TheVariants as status;
 
-use crate::checking::check_file;
-use crate::command::{Words, parse};
-use crate::compiling::compile_file;
-use crate::simulating::sim_files;
-use crate::status::{Status, code};
-use crate::tracing::trace_files;
+use crate::command::{Command, parse};
+use crate::first::read_first;
+use crate::job::do_job;
+use crate::status::{Status, code, finish};
+use pbs_engine::RunFail;
 use pbs_io::{Shelf, Sink};
 use std::alloc::Global;
 
@@ -26,7 +26,7 @@ pub fn run<S: Shelf, K: Sink>(alloc: Global, words: &[String], shelf: &mut S, ou
 
     // 0 and 1: the defined text was written whole, and this is its status.
     ensures answered { result < 2 → ForSome (S.state shelf.old).files (λ files.
-        Wrote (Defines (command_of (texts words.now)) files) result (K.state out.old) (K.state out.new)) }
+        Wrote (texts_with (Defines (command_of (texts words.now)) files) result) (K.state out.old) (K.state out.new)) }
 
     // 0: the first file was read to its end, and the trace where the command has one.
     ensures ended { result ≡ 0 → ReadToEnd (command_of (texts words.now)) (S.state shelf.new) }
@@ -37,7 +37,7 @@ pub fn run<S: Shelf, K: Sink>(alloc: Global, words: &[String], shelf: &mut S, ou
 
     // 3: the words need a file and the shelf failed, and not by itself where it is sound and has the needed files.
     ensures read { result ≡ 3 → Rose (S.state shelf.old).faults (S.state shelf.new).faults }
-    ensures needs { result ≡ 3 → NeedsFiles (command_of (texts words.now)) }
+    ensures needs { result ≡ 3 → NeedsFile (command_of (texts words.now)) }
     ensures never { (S.state shelf.old).sound ≡ true → ForSome (S.state shelf.old).files (λ files.
         HasNeeded (command_of (texts words.now)) files → result ≢ 3) }
 
@@ -46,7 +46,7 @@ pub fn run<S: Shelf, K: Sink>(alloc: Global, words: &[String], shelf: &mut S, ou
 
     // 3 and 4: a prefix of the defined text was written.
     ensures front { (result ≡ 3) ⊎ (result ≡ 4) → ForSome (S.state shelf.old).files (λ files.
-        CutShort (Defines (command_of (texts words.now)) files) (K.state out.old) (K.state out.new)) }
+        CutShort (texts_of (Defines (command_of (texts words.now)) files)) (K.state out.old) (K.state out.new)) }
 
     // 5: nothing was written.
     ensures memory { result ≡ 5 → (K.state out.new).written ≡ (K.state out.old).written }
@@ -83,9 +83,39 @@ pub fn run<S: Shelf, K: Sink>(alloc: Global, words: &[String], shelf: &mut S, ou
     ensures complete { (Rose (S.state shelf.old).faults (S.state shelf.new).faults → ⊥)
         → (Rose (K.state out.old).faults (K.state out.new).faults → ⊥) → result ≢ 5
         → ForSome (S.state shelf.old).files (λ files.
-        Wrote (Defines (command_of (texts words.now)) files) result (K.state out.old) (K.state out.new)) }
+        Wrote (texts_with (Defines (command_of (texts words.now)) files) result) (K.state out.old) (K.state out.new)) }
 {
     code(perform(alloc, words, shelf, out))
+}
+
+// What the command comes to, but for the line of a refusal.
+fn attempt<S: Shelf, K: Sink>(
+    alloc: Global,
+    command: &Command<'_>,
+    shelf: &mut S,
+    out: &mut K,
+) -> Result<(), RunFail>
+    ensures { Attempts (job_meant command.now.job) command.now.first.now (S.state shelf.old) (S.state shelf.new)
+        (K.state out.old) (K.state out.new) result }
+{
+    match read_first(alloc, shelf, command.first, &command.job) {
+        Ok(bytes) => do_job(alloc, &command.job, bytes.as_slice(), shelf, out),
+        Err(fail) => Err(fail),
+    }
+}
+
+// Does the command, and answers how that ended.
+fn carry_out<S: Shelf, K: Sink>(
+    alloc: Global,
+    command: &Command<'_>,
+    shelf: &mut S,
+    out: &mut K,
+) -> Status
+    ensures { EndsCommand (meant (Some command.now)) (S.state shelf.old) (S.state shelf.new)
+        (K.state out.old) (K.state out.new) result }
+{
+    let end = attempt(alloc, command, shelf, out);
+    finish(out, end)
 }
 
 fn perform<S: Shelf, K: Sink>(alloc: Global, words: &[String], shelf: &mut S, out: &mut K) -> Status
@@ -96,10 +126,7 @@ fn perform<S: Shelf, K: Sink>(alloc: Global, words: &[String], shelf: &mut S, ou
         (K.state out.old) (K.state out.new) result }
 {
     match parse(words) {
-        Words::Usage => Status::Usage,
-        Words::Check(spec) => check_file(alloc, spec, shelf, out),
-        Words::Compile(spec) => compile_file(alloc, spec, shelf, out),
-        Words::Sim(netlist, name) => sim_files(alloc, netlist, name, shelf, out),
-        Words::Trace(spec, name) => trace_files(alloc, spec, name, shelf, out),
+        None => Status::Usage,
+        Some(command) => carry_out(alloc, &command, shelf, out),
     }
 }

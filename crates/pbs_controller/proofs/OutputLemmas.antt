@@ -186,27 +186,32 @@ pub is_controller : (inputs actions : List (List ℕ)) (main : Tree) (empty comp
     → Built main (length actions) empty composed net ws → IsBuilt net.gates
     → net.inputs ≡ ports_of (codes "i_") inputs → output_names net ≡ ports_of (codes "a_") actions
     → IsController inputs actions main net
-is_controller inputs actions main empty composed net ws built plain in_ports out_ports = record {
-  circuit = built.right;
-  inputs_named = in_ports;
-  outputs_named = out_ports;
-  registers = ap length built.registers ∙ built.circuit.places;
-  few = omega (arith, built.gates, built.circuit.few, ap length built.none);
-  plain = plain;
-  few_pins = omega (
-    arith,
-    built.pins,
-    ap input_pins built.registers,
-    built.circuit.few_pins,
-    ap gate_input_pins built.none,
-    ap input_pins built.bare,
-  );
-  unread = unread composed net built.last built.right
-      (subst (HasAll composed) (sym built.registers) built.circuit.data_wires);
-  shows = λ v rows run k le apart.
-      shows_row main (length actions) net ws v rows k built.shows (run.each k le)
-      ((built.runs net built.keeps).at_row v rows run k le apart);
-  shows_always = λ none v rows run k le.
-      shows_row main (length actions) net ws v rows k built.shows (run.each k le)
-      ((built.scopeless net built.keeps none).at_row v rows run k le);
-}
+is_controller inputs actions main empty composed net ws built plain in_ports out_ports =
+    let places = ap length built.registers ∙ built.circuit.places in
+    record {
+      writable = record {
+        circuit = built.right;
+        inputs_named = in_ports;
+        outputs_named = out_ports;
+        plain = plain;
+        few_gates = omega (arith, built.gates, built.circuit.few, ap length built.none);
+        few_registers = omega (arith, places);
+        few_pins = omega (
+          arith,
+          built.pins,
+          ap input_pins built.registers,
+          built.circuit.few_pins,
+          ap gate_input_pins built.none,
+          ap input_pins built.bare,
+        );
+        unread = unread composed net built.last built.right
+            (subst (HasAll composed) (sym built.registers) built.circuit.data_wires);
+      };
+      registers = places;
+      shows = λ v rows run k le apart.
+          shows_row main (length actions) net ws v rows k built.shows (run.each k le)
+          ((built.runs net built.keeps).at_row v rows run k le apart);
+      shows_always = λ none v rows run k le.
+          shows_row main (length actions) net ws v rows k built.shows (run.each k le)
+          ((built.scopeless net built.keeps none).at_row v rows run k le);
+    }

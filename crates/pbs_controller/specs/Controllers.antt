@@ -20,20 +20,27 @@ pub record ShowsRow (net : Circuit) (main : Tree) (m : ℕ) (v : List Entry) (ro
   pub outputs : (a : ℕ) → a < m
       → output_value net (rows k) a ≡ fires main (since v k) 0 (length (since v k)) a
 
-pub record IsController (inputs actions : List (List ℕ)) (main : Tree) (net : Circuit) : Type 0 where
+-- what the text of a netlist needs to be right, with ports of these names: at most so many gates, registers and pins
+-- that are inputs, registers' data wires counted
+pub record IsWritable (inputs outputs : List (List ℕ)) (gates registers pins : ℕ) (net : Circuit) : Type 0 where
   -- each gate reads earlier gates only, and what is named is there: so each list of entries has its runs
   pub circuit : IsCircuit net
-  -- a port for each input and for each action, in declared order
-  pub inputs_named : net.inputs ≡ ports_of (codes "i_") inputs
-  pub outputs_named : output_names net ≡ ports_of (codes "a_") actions
-  -- a register for each place, and at most 20 gates for each node of the tree and its terms and one for each action
-  pub registers : length net.registers ≡ place_count main
-  pub few : length net.gates ≤ 20 * node_count main + length actions
+  pub inputs_named : net.inputs ≡ inputs
+  pub outputs_named : output_names net ≡ outputs
   pub plain : IsBuilt net.gates
-  -- pins that are inputs, registers' data wires counted: at most one for each input that stands in a term of the tree
-  pub few_pins : gate_input_pins net.gates + input_pins net.registers ≤ tree_input_leaves main
+  pub few_gates : length net.gates ≤ gates
+  pub few_registers : length net.registers ≤ registers
+  pub few_pins : gate_input_pins net.gates + input_pins net.registers ≤ pins
   -- outputs are only shown
   pub unread : AreUnread net
+
+pub record IsController (inputs actions : List (List ℕ)) (main : Tree) (net : Circuit) : Type 0 where
+  -- a port for each input and for each action, in declared order; at most 20 gates for each node of the tree and its
+  -- terms and one for each action, and one pin for each input that stands in a term of the tree
+  pub writable : IsWritable (ports_of (codes "i_") inputs) (ports_of (codes "a_") actions)
+      (20 * node_count main + length actions) (place_count main) (tree_input_leaves main) net
+  -- a register for each place
+  pub registers : length net.registers ≡ place_count main
   -- in every run from reset, where no scope was begun again while it was live since the last reset
   pub shows : (v : List Entry) (rows : ℕ → Row) → IsRun net v rows → (k : ℕ) → k ≤ length v
       → NoOverlapBelow main (since v k) (length (since v k)) → ShowsRow net main (length actions) v rows k

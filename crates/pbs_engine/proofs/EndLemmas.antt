@@ -1,10 +1,12 @@
--- How a run of a netlist that was read back ends.
-use Rattle.std.proofs.Common.{◌≡◌, ◌<◌, ◌≤◌, ◌+◌, ℕ, zero, suc, List, [], ◌∷◌, ◌++◌, length, codes, Option, Some}
-use Rattle.std.proofs.Common.{None, Result, Ok, Err, refl, sym, ap, subst, ◌∙◌, inl, inr, arith, Bool}
+-- How the run of a netlist ends that was read, or read back.
+use Rattle.std.proofs.Common.{◌≡◌, ◌<◌, ◌≤◌, ◌+◌, ℕ, zero, suc, List, [], ◌++◌, length, codes, Option}
+use Rattle.std.proofs.Common.{Result, Err, refl, sym, ap, subst, ◌∙◌, arith, Bool, true}
+use Rattle.std.specs.Prelude.{⊤}
 use Rattle.std.proofs.lemmas.List.{length-map}
 use Rattle.pbs_base.specs.declared.entry.Entry.{Entry}
 use Rattle.pbs_base.specs.declared.refusal.Refusal.{Refusal}
-use Rattle.pbs_io.specs.Outside.{ShelfState, SlotState, SinkState, content_of}
+use Rattle.pbs_io.specs.Outside.{ShelfState, SinkState, NamedFile, has_file}
+use Rattle.pbs_io.proofs.ReadLemmas.{GoesOn-refl}
 use Rattle.pbs_io.proofs.WrittenLemmas.{append_known-nil}
 use Rattle.pbs_ast.specs.declared.syntax.Spec.{Spec}
 use Rattle.pbs_rules.specs.Naming.{action_names}
@@ -13,18 +15,20 @@ use Rattle.net_core.specs.Circuits.{Circuit}
 use Rattle.net_core.specs.Runs.{output_value}
 use Rattle.net_eval.specs.Simulated.{IsZeroRun}
 use Rattle.trace_text.specs.Reports.{row_line, rows_text}
-use Rattle.trace_text.proofs.RowLemmas.{row_line-same}
-use Rattle.trace_reader.specs.Headers.{NoHeader, Traced, trace}
+use Rattle.trace_text.proofs.ReportLemmas.{row_line-same}
+use Rattle.trace_text.specs.Headers.{NoHeader, Traced, trace}
 use Rattle.net_trace.specs.declared.fail.RunFail.{RunFail}
 use Rattle.net_trace.specs.declared.fail.RunFail.TheVariants as fails
 use Rattle.net_trace.specs.Outcomes.{Outcome, NetGives, OnHeader, OnRows, refused, ended, shown_rows}
-use Rattle.net_trace.specs.Taken.{HasRows, NetRows, Stops, InHeader, InRows, TakesAtMost, TakesLittle, Untouched}
-use Rattle.net_trace.specs.Endings.{RunEnds, WroteLines, WroteFront, WroteTaken, net_task}
+use Rattle.net_trace.specs.Taken.{HasRows, NetRows}
+use Rattle.net_trace.specs.Endings.{Task, TaskEnds, net_task, trace_text}
+use Rattle.net_trace.proofs.EndingLemmas.{IsPart, ends_more, took_little}
+use Rattle.vlog_text.specs.Reading as netlists
 use Rattle.pbs_controller.specs.Ports.{ports_of}
-use Rattle.pbs_engine.specs.Accepted.{IsNotRun}
+use Rattle.pbs_engine.specs.Accepted.{IsCompiled}
 use Rattle.pbs_engine.specs.Right.{Realizes, IsReadBack}
-use Rattle.pbs_engine.specs.Outcomes.{TextGives, OfRefused, OfHeader, OfRows, FiredRows, row_fires, fired_rows}
-use Rattle.pbs_engine.specs.Outcomes.{text_task}
+use Rattle.pbs_engine.specs.Outcomes.{TextGives, OfHeader, OfRows, FiredRows, row_fires, fired_rows, text_task}
+use Rattle.pbs_engine.specs.Outcomes.{OfNetlist, netlist_task}
 
 -- ---- the lines
 
@@ -60,103 +64,65 @@ text_gives text bytes net back o (OnRows read is rows run) =
     (OfRows back.spec back.run read (subst (λ ports. trace ports bytes ≡ Traced read) back.realizes.inputs is))
 
 -- what is due of the netlist, is due of the text
-text_stops : (text : List ℕ) (net : Circuit) → IsReadBack text net → (taken lines : List ℕ)
-    → Stops (NetRows net) taken lines → Stops (FiredRows text) taken lines
-text_stops text net back taken lines (InHeader none short) = InHeader none short
-text_stops text net back taken lines (InRows rows) = InRows (record {
+text_due : (text : List ℕ) (net : Circuit) → IsReadBack text net → (taken lines : List ℕ) → NetRows net taken lines
+    → FiredRows text taken lines
+text_due text net back taken lines rows = record {
   spec = back.spec;
   run = back.run;
   entries = rows.entries;
   has = subst (λ ports. HasRows ports taken rows.entries) back.realizes.inputs rows.has;
   lines_are = rows.lines_are ∙ shows_fired back.spec net rows.rows rows.entries back.realizes rows.run;
-})
-
--- ---- what was written
-
--- what one set of outcomes wrote, another one wrote that allows as much
-wrote_more : (P Q : Outcome → Type 0) (r : Option Refusal) (before now : SinkState)
-    → ((o : Outcome) → P o → Q o) → WroteLines P r before now → WroteLines Q r before now
-wrote_more P Q r before now f w = record {
-  outcome = w.outcome;
-  given = f w.outcome w.given;
-  refusal_is = w.refusal_is;
-  written = w.written;
 }
 
-cut_more : (P Q : Outcome → Type 0) (before now : SinkState) → ((o : Outcome) → P o → Q o)
-    → WroteFront P before now → WroteFront Q before now
-cut_more P Q before now f c = record {
-  front = c.front;
-  written = c.written;
-  begins = elim c.begins [
-    | inl none ↦ inl none
-    | inr some ↦ inr (record {
-      outcome = some.outcome;
-      given = f some.outcome some.given;
-      rest = some.rest;
-      whole_is = some.whole_is;
-    })
-  ];
-}
+-- ---- how the calls end
 
-taken_more : (P Q : List ℕ → List ℕ → Type 0) (text : List ℕ) (slot slot_now : SlotState) (before now : SinkState)
-    → ((taken lines : List ℕ) → P taken lines → Q taken lines) → WroteTaken P text slot slot_now before now
-    → WroteTaken Q text slot slot_now before now
-taken_more P Q text slot slot_now before now f w = record {
-  taken = w.taken;
-  lines = w.lines;
-  took = w.took;
-  due = f w.taken w.lines w.due;
-  written = w.written;
-}
+-- a file that is needed
+abbrev HasFile : List ℕ → List NamedFile → Type 0
+HasFile name files = has_file files name ≡ true
 
--- ---- how the call ends
+read_back_part : (text name : List ℕ) (net : Circuit) (told : Option (List NamedFile)) → IsReadBack text net
+    → IsPart (net_task name) (text_task name) (λ files. net) (λ files. text) (λ files. ⊤ → HasFile name files)
+    (λ files. (spec : Spec) × IsCompiled text spec → HasFile name files) told
+read_back_part text name net told back = record {
+  trace = refl;
+  gives = λ files is bytes o given. text_gives text bytes net back o given;
+  due = λ files is taken lines rows. text_due text net back taken lines rows;
+  has = λ files is has _. has (back.spec, back.run);
+}
 
 pub net_ends : (text name : List ℕ) (net : Circuit) (a b : ShelfState) (k m : SinkState)
-    (result : Result (Unit {0}) RunFail) → IsReadBack text net → RunEnds (net_task net name a) a b k m result
-    → RunEnds (text_task text name a) a b k m result
-net_ends text name net a b k m (Ok done) back w = (
-  w.0,
-  λ files told. wrote_more _ _ None k m (text_gives text (content_of files name) net back) (w.1 files told),
-)
-net_ends text name net a b k m (Err (fails.Refused r)) back w =
-    λ files told. wrote_more _ _ (Some r) k m (text_gives text (content_of files name) net back) (w files told)
-net_ends text name net a b k m (Err fails.WriteFault) back w =
-    (w.0, λ files told. cut_more _ _ k m (text_gives text (content_of files name) net back) (w.1 files told))
-net_ends text name net a b k m (Err fails.Memory) back w = w
-net_ends text name net a b k m (Err fails.ReadFault) back w = (
-  record {
-    rose = w.0.rose;
-    never = λ calm has. w.0.never calm (record {
-      files = has.files;
-      are_told = has.are_told;
-      holds = has.holds back.spec back.run;
-    });
-  },
-  λ files told. (let stopped = w.1 files told in record {
-    front = cut_more _ _ k m (text_gives text (content_of files name) net back) stopped.front;
-    taken = taken_more _ _ (content_of files name) (a.slots 1) (b.slots 1) k m (text_stops text net back)
-        stopped.taken;
-  }),
-)
+    (result : Result (Unit {0}) RunFail) → IsReadBack text net → TaskEnds (net_task name) net a b k m result
+    → TaskEnds (text_task name) text a b k m result
+net_ends text name net a b k m result back ends =
+    ends_more (net_task name) (text_task name) (λ files. net) (λ files. text) (λ files. ⊤ → HasFile name files)
+    (λ files. (spec : Spec) × IsCompiled text spec → HasFile name files) a a b k m
+    (read_back_part text name net a.files back) (GoesOn-refl a) refl result ends
 
-pub text_refused : (text name : List ℕ) (r : Refusal) (a : ShelfState) (k : SinkState) → IsNotRun text r
-    → RunEnds (text_task text name a) a a k k (Err (fails.Refused r))
-text_refused text name r a k is = λ files told. record {
-  outcome = refused r;
-  given = OfRefused is;
-  refusal_is = refl;
-  written = sym (append_known-nil k.written);
+netlist_part : (text name : List ℕ) (net : Circuit) (told : Option (List NamedFile)) → netlists.StandsFor text net
+    → IsPart (net_task name) (netlist_task name) (λ files. net) (λ files. text) (λ files. ⊤ → HasFile name files)
+    (λ files. (net : Circuit) × netlists.StandsFor text net → HasFile name files) told
+netlist_part text name net told stands = record {
+  trace = refl;
+  gives = λ files is bytes o given. OfNetlist net stands o given;
+  due = λ files is taken lines rows. record { net = net; stands = stands; rows = rows };
+  has = λ files is has _. has (net, stands);
 }
 
--- ---- nothing was taken
+pub netlist_ends : (text name : List ℕ) (net : Circuit) (a b : ShelfState) (k m : SinkState)
+    (result : Result (Unit {0}) RunFail) → netlists.StandsFor text net
+    → TaskEnds (net_task name) net a b k m result → TaskEnds (netlist_task name) text a b k m result
+netlist_ends text name net a b k m result stands ends =
+    ends_more (net_task name) (netlist_task name) (λ files. net) (λ files. text) (λ files. ⊤ → HasFile name files)
+    (λ files. (net : Circuit) × netlists.StandsFor text net → HasFile name files) a a b k m
+    (netlist_part text name net a.files stands) (GoesOn-refl a) refl result ends
 
-no_bytes : (header behind : List ℕ) → [] ≡ header ++ 10 ∷ behind → length behind ≤ 65536
-no_bytes [] behind e = absurd (cc)
-no_bytes (c ∷ header) behind e = absurd (cc)
+-- the text is refused, and nothing is opened
+pub refused_at_once : (T : Task (List ℕ)) (text : List ℕ) (r : Refusal) (a : ShelfState) (k : SinkState)
+    → ((bytes : List ℕ) → T.gives text bytes (refused r)) → TaskEnds T text a a k k (Err (fails.Refused r))
+refused_at_once T text r a k gives = λ files told.
+    record { text = []; defined = gives (trace_text T.trace files); written = sym (append_known-nil k.written) }
 
-pub little : (text : List ℕ) (slot : SlotState) → TakesLittle text slot slot
-little text slot = record { taken = []; took = Untouched refl; little = λ h b e none. no_bytes h b e }
-
-pub few : (text : List ℕ) (slot : SlotState) → TakesAtMost 67108865 text slot slot
-few text slot = record { taken = []; took = Untouched refl; few = omega arith }
+pub no_memory : (T : Task (List ℕ)) (text : List ℕ) (a : ShelfState) (k : SinkState)
+    → TaskEnds T text a a k k (Err fails.Memory)
+no_memory T text a k =
+    (refl, λ files told. took_little (trace_text T.trace files) (a.slots 1) (a.slots 1) refl)

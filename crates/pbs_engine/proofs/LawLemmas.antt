@@ -6,7 +6,7 @@ use Rattle.pbs_ast.specs.declared.syntax.Spec.{Spec}
 use Rattle.pbs_text.specs.Answers.{Answers, StandsFor}
 use Rattle.pbs_check.specs.Checked.{IsFirst, IsUnbroken}
 use Rattle.pbs_expand.specs.Expanded.{refusal}
-use Rattle.pbs_engine.specs.Accepted.{Breaks, OnReading, OnRules, OnExpansion, IsAccepted, IsRun, IsNotRun, Broken}
+use Rattle.pbs_engine.specs.Accepted.{Breaks, OnReading, OnRules, OnExpansion, IsAccepted, IsCompiled, IsNotCompiled, Broken}
 use Rattle.pbs_engine.specs.Accepted.{Unbuilt, not_built, unbuilt}
 
 -- the laws of the reader and of the checks
@@ -70,7 +70,7 @@ pub record OneCheck : Type 0 where
   pub refusal : (text : List ℕ) (r s : Refusal) → Breaks text r → Breaks text s → r ≡ s
   pub apart : (text : List ℕ) (a : Spec) (r : Refusal) → IsAccepted text a → Breaks text r → ⊥
 
-pub run_apart : OneCheck → (text : List ℕ) (a : Spec) (r : Refusal) → IsRun text a → IsNotRun text r → ⊥
+pub run_apart : OneCheck → (text : List ℕ) (a : Spec) (r : Refusal) → IsCompiled text a → IsNotCompiled text r → ⊥
 run_apart one text a r run (Broken broken) = one.apart text a r run.accepted broken
 run_apart one text a r run (Unbuilt spec span accepted some) =
     let both : Some span ≡ None =
@@ -80,7 +80,7 @@ abbrev some_span : Span → Option Span → Span
 some_span other (Some span) = span
 some_span other None = other
 
-pub one_not_run : OneCheck → (text : List ℕ) (r s : Refusal) → IsNotRun text r → IsNotRun text s → r ≡ s
+pub one_not_run : OneCheck → (text : List ℕ) (r s : Refusal) → IsNotCompiled text r → IsNotCompiled text s → r ≡ s
 one_not_run one text r s (Broken p) (Broken q) = one.refusal text r s p q
 one_not_run one text r s (Broken p) (Unbuilt spec span accepted some) = absurd (one.apart text spec r accepted p)
 one_not_run one text r s (Unbuilt spec span accepted some) (Broken q) = absurd (one.apart text spec s accepted q)

@@ -4,3 +4,9 @@ pub mod MadeLemmas
 pub mod RightLemmas
 pub mod EndLemmas
 pub mod OutcomeLaws
+pub mod Lists
+pub mod Declared
+pub mod Counted
+pub mod Ports
+pub mod Pins
+pub mod Emitting

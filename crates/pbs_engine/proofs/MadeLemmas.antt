@@ -10,7 +10,7 @@ use Rattle.pbs_controller.specs.Controllers.{IsController}
 use Rattle.pbs_engine.specs.declared.fail.EngineFail.{EngineFail}
 use Rattle.pbs_engine.specs.declared.fail.EngineFail.TheVariants as engine
 use Rattle.pbs_engine.specs.declared.front.Found.{Found}
-use Rattle.pbs_engine.specs.Accepted.{IsFound, IsNotRun, Broken, Unbuilt, Finds, first_scope, first_level, unbuilt}
+use Rattle.pbs_engine.specs.Accepted.{IsFound, IsNotCompiled, Broken, Unbuilt, Finds, first_scope, first_level, unbuilt}
 use Rattle.pbs_engine.specs.inner.Made.{IsMade, Makes}
 
 pub is_made : (text : List ℕ) (found : Found) (net : Circuit) → IsFound text found
@@ -29,7 +29,7 @@ is_made text found net is none controller = record {
 
 pub is_unbuilt : (text : List ℕ) (found : Found) (span : Span) → IsFound text found
     → or_else (first_scope (tree_of found.main.tree)) (first_level found.spec) ≡ Some span
-    → IsNotRun text (unbuilt span)
+    → IsNotCompiled text (unbuilt span)
 is_unbuilt text found span is some =
     Unbuilt (bare found.spec) span is.accepted
     (ap (λ t. or_else (first_scope t) (first_level found.spec)) (sym is.tree) ∙ some)

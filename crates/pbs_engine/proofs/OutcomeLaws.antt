@@ -2,16 +2,16 @@
 use Rattle.std.proofs.Common.{◌≡◌, ℕ, List, length, sym, ap, ◌∙◌}
 use Rattle.pbs_base.specs.declared.refusal.Refusal.{Refusal}
 use Rattle.pbs_ast.specs.declared.syntax.Spec.{Spec}
-use Rattle.trace_reader.specs.Headers.{Trace, NoHeader, Traced, trace}
+use Rattle.trace_text.specs.Headers.{Trace, NoHeader, Traced, trace}
 use Rattle.net_trace.specs.Outcomes.{Outcome, refused, ended}
-use Rattle.pbs_engine.specs.Accepted.{IsRun, IsNotRun}
+use Rattle.pbs_engine.specs.Accepted.{IsCompiled, IsNotCompiled}
 use Rattle.pbs_engine.specs.Outcomes.{TextGives, OfRefused, OfHeader, OfRows, input_ports, fired_rows}
 
 -- the laws of what is run
 pub record OneRun : Type 0 where
-  pub spec : (text : List ℕ) (a b : Spec) → IsRun text a → IsRun text b → a ≡ b
-  pub refusal : (text : List ℕ) (r s : Refusal) → IsNotRun text r → IsNotRun text s → r ≡ s
-  pub apart : (text : List ℕ) (a : Spec) (r : Refusal) → IsRun text a → IsNotRun text r → ⊥
+  pub spec : (text : List ℕ) (a b : Spec) → IsCompiled text a → IsCompiled text b → a ≡ b
+  pub refusal : (text : List ℕ) (r s : Refusal) → IsNotCompiled text r → IsNotCompiled text s → r ≡ s
+  pub apart : (text : List ℕ) (a : Spec) (r : Refusal) → IsCompiled text a → IsNotCompiled text r → ⊥
 
 -- the outcome of a specification on a trace
 abbrev outcome_of : Spec → Trace → Outcome
@@ -23,7 +23,7 @@ abbrev outcome : List ℕ → Spec → Outcome
 outcome bytes spec = outcome_of spec (trace (input_ports spec) bytes)
 
 -- a text that is run has that outcome
-run_gives : OneRun → (text bytes : List ℕ) (spec : Spec) (o : Outcome) → IsRun text spec → TextGives text bytes o
+run_gives : OneRun → (text bytes : List ℕ) (spec : Spec) (o : Outcome) → IsCompiled text spec → TextGives text bytes o
     → o ≡ outcome bytes spec
 run_gives one text bytes spec o run (OfRefused {r} a) = absurd (one.apart text spec r run a)
 run_gives one text bytes spec o run (OfHeader other {r} run_other is) =
@@ -32,7 +32,7 @@ run_gives one text bytes spec o run (OfRows other run_other read is) =
     ap (outcome_of other) (sym is) ∙ ap (outcome bytes) (one.spec text other spec run_other run)
 
 -- a text that isn't run is refused
-refused_gives : OneRun → (text bytes : List ℕ) (r : Refusal) (o : Outcome) → IsNotRun text r → TextGives text bytes o
+refused_gives : OneRun → (text bytes : List ℕ) (r : Refusal) (o : Outcome) → IsNotCompiled text r → TextGives text bytes o
     → o ≡ refused r
 refused_gives one text bytes r o a (OfRefused b) = ap refused (one.refusal text _ r b a)
 refused_gives one text bytes r o a (OfHeader spec run is) = absurd (one.apart text spec r run a)

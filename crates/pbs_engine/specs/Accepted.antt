@@ -62,15 +62,15 @@ abbrev pub unbuilt : Span → Refusal
 unbuilt span = record { subject = subject.Spec; rule = 17; span = span }
 
 -- the text's specification is run
-pub record IsRun (text : List ℕ) (spec : Spec) : Type 0 where
+pub record IsCompiled (text : List ℕ) (spec : Spec) : Type 0 where
   pub accepted : IsAccepted text spec
   pub built : not_built spec ≡ None
 
 -- no controller is made of the text
-pub data IsNotRun (text : List ℕ) : Refusal → Type 0 where
-  Broken : {r : Refusal} → Breaks text r → IsNotRun text r
+pub data IsNotCompiled (text : List ℕ) : Refusal → Type 0 where
+  Broken : {r : Refusal} → Breaks text r → IsNotCompiled text r
   Unbuilt : (spec : Spec) (span : Span) → IsAccepted text spec → not_built spec ≡ Some span
-      → IsNotRun text (unbuilt span)
+      → IsNotCompiled text (unbuilt span)
 
 -- ---- what was found
 

@@ -1,6 +1,5 @@
--- What the text of a specification gives on a trace.
-use Rattle.std.specs.Prelude.{◌≡◌, ℕ, suc, Bool, true, List, length, codes}
-use Rattle.pbs_io.specs.Outside.{ShelfState, NamedFile, content_of, has_file}
+-- What the texts of specifications and of netlists give on a trace.
+use Rattle.std.specs.Prelude.{◌≡◌, ℕ, suc, Bool, List, length, codes, Some}
 use Rattle.pbs_base.specs.Entries.{since}
 use Rattle.pbs_base.specs.declared.entry.Entry.{Entry}
 use Rattle.pbs_base.specs.declared.refusal.Refusal.{Refusal}
@@ -9,13 +8,15 @@ use Rattle.pbs_rules.specs.Naming.{input_names, action_names}
 use Rattle.pbs_expand.specs.Expanded.{expanded}
 use Rattle.pbs_derive.specs.Derivations.{fires}
 use Rattle.trace_text.specs.Reports.{rows_text}
-use Rattle.trace_reader.specs.Traces.{Rows}
-use Rattle.trace_reader.specs.Headers.{NoHeader, Traced, trace}
-use Rattle.net_trace.specs.Outcomes.{Outcome, refused, ended}
-use Rattle.net_trace.specs.Taken.{HasRows, Stops}
-use Rattle.net_trace.specs.Endings.{RunTask, IsTold}
+use Rattle.trace_text.specs.Traces.{Rows}
+use Rattle.trace_text.specs.Headers.{NoHeader, Traced, trace}
+use Rattle.net_core.specs.Circuits.{Circuit}
+use Rattle.vlog_text.specs.Reading as netlists
+use Rattle.net_trace.specs.Outcomes.{Outcome, NetGives, refused, ended}
+use Rattle.net_trace.specs.Taken.{HasRows, NetRows}
+use Rattle.net_trace.specs.Endings.{Task}
 use Rattle.pbs_controller.specs.Ports.{ports_of}
-use Rattle.pbs_engine.specs.Accepted.{IsRun, IsNotRun}
+use Rattle.pbs_engine.specs.Accepted.{IsCompiled, IsNotCompiled}
 
 abbrev pub input_ports : Spec → List (List ℕ)
 input_ports spec = ports_of (codes "i_") (input_names spec.inputs)
@@ -31,26 +32,50 @@ fired_rows spec entries =
 
 -- what the text of a specification gives on the text of a trace
 pub data TextGives (text trace_text : List ℕ) : Outcome → Type 0 where
-  OfRefused : {r : Refusal} → IsNotRun text r → TextGives text trace_text (refused r)
-  OfHeader : (spec : Spec) {r : Refusal} → IsRun text spec → trace (input_ports spec) trace_text ≡ NoHeader r
+  OfRefused : {r : Refusal} → IsNotCompiled text r → TextGives text trace_text (refused r)
+  OfHeader : (spec : Spec) {r : Refusal} → IsCompiled text spec → trace (input_ports spec) trace_text ≡ NoHeader r
       → TextGives text trace_text (refused r)
-  OfRows : (spec : Spec) → IsRun text spec → (read : Rows) → trace (input_ports spec) trace_text ≡ Traced read
+  OfRows : (spec : Spec) → IsCompiled text spec → (read : Rows) → trace (input_ports spec) trace_text ≡ Traced read
       → TextGives text trace_text (ended (fired_rows spec read.entries) (length read.entries) read.ending)
 
 -- the line of row 0 and those of the rows whose newlines were taken
 pub record FiredRows (text taken lines : List ℕ) : Type 0 where
   pub spec : Spec
-  pub run : IsRun text spec
+  pub run : IsCompiled text spec
   pub entries : List Entry
   pub has : HasRows (input_ports spec) taken entries
   pub lines_are : lines ≡ fired_rows spec entries
 
--- the text of a specification on the named trace, which is needed where no rule is broken
-abbrev pub text_task : List ℕ → List ℕ → ShelfState → RunTask (List NamedFile)
-text_task text name shelf = record {
-  told = shelf.files;
-  gives = λ files. TextGives text (content_of files name);
-  text = λ files. content_of files name;
-  stops = Stops (FiredRows text);
-  has = IsTold shelf.files (λ files. (spec : Spec) → IsRun text spec → has_file files name ≡ true);
+-- the text of a specification on the named trace
+abbrev pub text_task : List ℕ → Task (List ℕ)
+text_task name = record {
+  trace = Some name;
+  gives = TextGives;
+  due = FiredRows;
+  opens = λ text. (spec : Spec) × IsCompiled text spec;
+  leaves = λ text. (r : Refusal) × IsNotCompiled text r;
+}
+
+-- ---- netlists
+
+-- what the text of a netlist gives on the text of a trace
+pub data NetlistGives (text trace_text : List ℕ) : Outcome → Type 0 where
+  OfNetlist : (net : Circuit) → netlists.StandsFor text net → (outcome : Outcome) → NetGives net trace_text outcome
+      → NetlistGives text trace_text outcome
+  OfBadNetlist : {r : Refusal} → netlists.IsRefusedBy text r → NetlistGives text trace_text (refused r)
+
+-- a netlist that the text stands for has these lines where so much of the trace was taken
+pub record SimulatedRows (text taken lines : List ℕ) : Type 0 where
+  pub net : Circuit
+  pub stands : netlists.StandsFor text net
+  pub rows : NetRows net taken lines
+
+-- the text of a netlist on the named trace
+abbrev pub netlist_task : List ℕ → Task (List ℕ)
+netlist_task name = record {
+  trace = Some name;
+  gives = NetlistGives;
+  due = SimulatedRows;
+  opens = λ text. (net : Circuit) × netlists.StandsFor text net;
+  leaves = λ text. (r : Refusal) × netlists.IsRefusedBy text r;
 }

@@ -10,11 +10,12 @@ use Rattle.net_core.specs.Rows.{Row}
 use Rattle.net_core.specs.Circuits.{Circuit, IsBuilt, IsCircuit, output_names}
 use Rattle.net_core.specs.Runs.{IsRun}
 use Rattle.vlog_text.specs.Reading.{StandsFor}
+use Rattle.vlog_text.specs.Emitted.{emitted}
 use Rattle.pbs_controller.specs.Controllers.{ShowsRow}
 use Rattle.pbs_controller.specs.Ports.{ports_of}
 use Rattle.pbs_engine.specs.declared.fail.EngineFail.{EngineFail}
 use Rattle.pbs_engine.specs.declared.fail.EngineFail.TheVariants as fails
-use Rattle.pbs_engine.specs.Accepted as specifications
+use Rattle.pbs_engine.specs.Accepted.{IsCompiled, IsNotCompiled}
 
 -- the nodes of the tree and of its terms, the declared inputs, actions and levels, and the assignments of levels
 abbrev pub units : Spec → ℕ
@@ -38,32 +39,35 @@ pub record Realizes (spec : Spec) (net : Circuit) : Type 0 where
   pub plain : IsBuilt net.gates
   pub few : length net.gates ≤ 32 * units spec
 
--- the text has at most 67,108,864 bytes, breaks no rule, and stands for a controller of the specification
+-- the text has at most 67,108,864 bytes, breaks no rule, and stands for a controller of the specification; and it is
+-- the text that is written for that netlist: its ports are `clk`, `rst`, the inputs and the actions in this order, and
+-- its registers are `q0`, `q1` and so on
 pub record IsRight (spec : Spec) (text : List ℕ) : Type 0 where
   pub net : Circuit
   pub stands : StandsFor text net
+  pub written : text ≡ emitted net
   pub realizes : Realizes spec net
 
 -- the second text is Verilog of the specification that the first stands for
 pub record IsVerilogOf (text verilog : List ℕ) : Type 0 where
   pub spec : Spec
-  pub run : specifications.IsRun text spec
+  pub run : IsCompiled text spec
   pub right : IsRight spec verilog
 
 -- what was appended is Verilog of the text's specification; nothing was where the text is refused, or no memory was
 -- found
 abbrev pub Compiles : List ℕ → List ℕ → List ℕ → Result (Unit {0}) EngineFail → Type 0
 Compiles text before now (Ok done) = (verilog : List ℕ) × IsVerilogOf text verilog × (now ≡ before ++ verilog)
-Compiles text before now (Err (fails.Refused r)) = specifications.IsNotRun text r × (now ≡ before)
+Compiles text before now (Err (fails.Refused r)) = IsNotCompiled text r × (now ≡ before)
 Compiles text before now (Err fails.Memory) = now ≡ before
 
 -- the netlist is what such Verilog stands for
 pub record IsReadBack (text : List ℕ) (net : Circuit) : Type 0 where
   pub spec : Spec
-  pub run : specifications.IsRun text spec
+  pub run : IsCompiled text spec
   pub realizes : Realizes spec net
 
 abbrev pub ReadsBack : List ℕ → Result Circuit EngineFail → Type 0
 ReadsBack text (Ok net) = IsReadBack text net
-ReadsBack text (Err (fails.Refused r)) = specifications.IsNotRun text r
+ReadsBack text (Err (fails.Refused r)) = IsNotCompiled text r
 ReadsBack text (Err fails.Memory) = Unit {0}

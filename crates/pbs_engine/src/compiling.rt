@@ -5,7 +5,8 @@ ghost use Rattle.pbs_engine.specs.Right.{Compiles, IsVerilogOf, ReadsBack};
 use crate::controller::make;
 use crate::fail::EngineFail;
 use net_core::Netlist;
-use pbs_emit::emitted_stands;
+use pbs_check::laws::within_limits;
+use crate::laws::emitted_stands;
 use std::alloc::Global;
 use vlog_read::{VlogFail, one_answer, read_netlist};
 use vlog_write::write_netlist;
@@ -16,11 +17,11 @@ pub fn compile(alloc: Global, text: &[u8], out: &mut Vec<u8>) -> Result<(), Engi
     ensures { Compiles text.now out.old.items out.new.items result }
 {
     emitted_stands();
+    within_limits();
     let net = match make(alloc, text) {
         Ok(net) => net,
         Err(fail) => return Err(fail),
     };
-    let _ = net.gates();
     match write_netlist(alloc, &net, out) {
         Ok(()) => Ok(()),
         Err(_) => Err(EngineFail::Memory),

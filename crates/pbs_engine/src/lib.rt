@@ -4,14 +4,14 @@
 mod compiling;
 mod controller;
 mod fail;
-mod files;
 mod front;
 pub mod laws;
+mod simulating;
 mod tracing;
 
 pub use compiling::compile;
 pub use fail::EngineFail;
-pub use files::load;
 pub use front::check;
-pub use net_trace::{RunFail, simulate};
+pub use net_trace::RunFail;
+pub use simulating::sim;
 pub use tracing::trace;

@@ -2,16 +2,16 @@
 ghost use Rattle.std.specs.Prelude.{◌≡◌, ◌≢◌, ◌≤◌, Err};
 ghost use Rattle.std.specs.Option.{ForSome};
 ghost use Rattle.pbs_io.specs.Outside.{GoesOn, content_of};
+ghost use Rattle.pbs_io.specs.Taken.{TakesAtMost};
 ghost use Rattle.pbs_base.specs.declared.refusal.Refusal.{Refusal as RefusalValue};
 ghost use Rattle.net_trace.specs.declared.fail.RunFail.TheVariants as fails;
-ghost use Rattle.net_trace.specs.Endings.{RunEnds};
-ghost use Rattle.net_trace.specs.Taken.{TakesAtMost};
-ghost use Rattle.pbs_engine.specs.Accepted.{IsNotRun};
+ghost use Rattle.net_trace.specs.Endings.{TaskEnds};
+ghost use Rattle.pbs_engine.specs.Accepted.{IsNotCompiled};
 ghost use Rattle.pbs_engine.specs.Outcomes.{text_task};
 
 use crate::compiling::read_back;
 use crate::fail::EngineFail;
-use crate::laws::one_run;
+use crate::laws::one_compiled;
 use net_trace::{RunFail, simulate};
 use pbs_io::{Shelf, Sink};
 use std::alloc::Global;
@@ -30,15 +30,15 @@ pub fn trace<S: Shelf, K: Sink>(
     ensures goes_on { GoesOn (S.state shelf.old) (S.state shelf.new) }
     ensures other { (S.state shelf.new).slots 0 ≡ (S.state shelf.old).slots 0 }
     ensures later { (K.state sink.old).faults ≤ (K.state sink.new).faults }
-    ensures ends { RunEnds (text_task text.now name.now (S.state shelf.old)) (S.state shelf.old) (S.state shelf.new)
+    ensures ends { TaskEnds (text_task name.now) text.now (S.state shelf.old) (S.state shelf.new)
         (K.state sink.old) (K.state sink.new) result }
     ensures few { ForSome (S.state shelf.old).files (λ files. TakesAtMost 67108865 (content_of files name.now)
         ((S.state shelf.old).slots 1) ((S.state shelf.new).slots 1)) }
-    ensures untouched { (r : RefusalValue) → IsNotRun text.now r → (shelf.new ≡ shelf.old) × (sink.new ≡ sink.old) }
-    ensures no_fault { (r : RefusalValue) → IsNotRun text.now r
+    ensures untouched { (r : RefusalValue) → IsNotCompiled text.now r → (shelf.new ≡ shelf.old) × (sink.new ≡ sink.old) }
+    ensures no_fault { (r : RefusalValue) → IsNotCompiled text.now r
         → (result ≢ Err fails.ReadFault) × (result ≢ Err fails.WriteFault) }
 {
-    one_run();
+    one_compiled();
     match read_back(alloc, text) {
         Ok(net) => simulate(alloc, &net, shelf, name, sink),
         Err(EngineFail::Refused(refusal)) => Err(RunFail::Refused(refusal)),

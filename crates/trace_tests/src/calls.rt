@@ -1,12 +1,12 @@
 // What single calls use and answer.
 ghost use Rattle.std.specs.Prelude.{◌≡◌, ◌≤◌, length};
-ghost use Rattle.trace_reader.specs.declared.answers.Phase.TheVariants.{Header, Rows};
+ghost use Rattle.trace_text.specs.declared.answers.Phase.TheVariants.{Header, Rows};
 
 use crate::names::{named, refusal};
 use pbs_base::Names;
 use std::alloc::Global;
 use std::test::Fail;
-use trace_reader::{Head, Row, TraceReader};
+use trace_text::{Head, Row, TraceReader};
 
 /// A piece of a text, whether it is the last one, how many of its bytes a call uses, what the call answers, and how many
 /// bytes the reader has then used.

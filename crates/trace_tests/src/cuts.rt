@@ -2,7 +2,7 @@
 use crate::names::{named, refusal};
 use crate::pieces::{Wanted, finds_each_way};
 use std::test::Fail;
-use trace_reader::Row;
+use trace_text::Row;
 
 #[test]
 fn good(rt: HostRuntime) -> Result<(), Fail> {

@@ -6,7 +6,7 @@ use crate::pieces::read_head;
 use pbs_base::{Names, Refusal};
 use std::alloc::Global;
 use std::test::Fail;
-use trace_reader::{Head, TraceReader};
+use trace_text::{Head, TraceReader};
 
 fn letters(alloc: Global) -> Result<Vec<u8>, Fail> {
     let mut text = Vec::with_capacity(alloc, 65536)?;

@@ -1,12 +1,12 @@
 // What a reader answers to a text in pieces.
 ghost use Rattle.std.specs.Prelude.{◌≡◌, ◌≤◌, length, IfOk};
-ghost use Rattle.trace_reader.specs.States.{head_phase, row_phase};
-ghost use Rattle.trace_reader.specs.declared.answers.Phase.TheVariants.{Header, Rows};
+ghost use Rattle.trace_text.specs.States.{head_phase, row_phase};
+ghost use Rattle.trace_text.specs.declared.answers.Phase.TheVariants.{Header, Rows};
 
 use pbs_base::{Names, Refusal};
 use std::alloc::Global;
 use std::test::Fail;
-use trace_reader::{Head, Row, TraceReader};
+use trace_text::{Head, Row, TraceReader};
 
 /// What is to be found in a text: its rows with its end, or why its header is refused.
 #[derive(Clone, Copy)]

@@ -4,7 +4,7 @@ use crate::pieces::{Wanted, finds};
 use pbs_base::{Names, Word};
 use std::alloc::Global;
 use std::test::Fail;
-use trace_reader::Row;
+use trace_text::Row;
 
 // The ports `p0` to `p63`.
 fn numbered(alloc: Global) -> Result<Names, Fail> {

@@ -12,13 +12,13 @@ use Rattle.net_eval.specs.States.{IsFresh}
 use Rattle.trace_text.specs.Held.{Holds, PassesOn}
 use Rattle.trace_text.specs.HeldBytes.{held_bytes}
 use Rattle.trace_text.specs.Reports.{end_line, row_line}
-use Rattle.trace_reader.specs.Traces.{Rows, lines, rows}
-use Rattle.trace_reader.specs.Headers.{Traced, NoHeader, trace}
-use Rattle.trace_reader.specs.States.{ReaderState, has_newline, rows_from}
+use Rattle.trace_text.specs.Traces.{Rows, lines, rows}
+use Rattle.trace_text.specs.Headers.{Traced, NoHeader, trace}
+use Rattle.trace_text.specs.States.{ReaderState, has_newline, rows_from}
 use Rattle.pbs_base.specs.declared.entry.Entry.TheVariants.{Vector, Reset}
-use Rattle.trace_reader.specs.declared.answers.Row as answers
-use Rattle.trace_reader.specs.declared.answers.Row.TheVariants as answer
-use Rattle.trace_reader.specs.declared.answers.Phase.TheVariants as phase
+use Rattle.trace_text.specs.declared.answers.Row as answers
+use Rattle.trace_text.specs.declared.answers.Row.TheVariants as answer
+use Rattle.trace_text.specs.declared.answers.Phase.TheVariants as phase
 use Rattle.net_trace.specs.declared.fail.RunFail.{RunFail}
 use Rattle.net_trace.specs.declared.fail.RunFail.TheVariants as fails
 use Rattle.net_trace.specs.declared.header.Headed.{Headed}
@@ -28,7 +28,7 @@ use Rattle.net_trace.specs.declared.rows.Progress.TheVariants as progress
 use Rattle.net_trace.specs.declared.report.Report.{Report}
 use Rattle.net_trace.specs.Outcomes.{NetGives, shown_rows}
 use Rattle.net_trace.specs.Taken.{Stops, NetRows}
-use Rattle.net_trace.specs.Endings.{WroteLines, WroteFront}
+use Rattle.net_trace.specs.Endings.{Wrote, CutShort, lines_with, lines_of}
 
 -- ---- the report
 
@@ -160,10 +160,10 @@ Refuses net before entries r now result = ⊥
 
 -- what the text gives was written up to its end or up to a refusal, or its writing was cut short
 abbrev pub Finishes : Circuit → SinkState → List ℕ → SinkState → Result (Unit {0}) RunFail → Type 0
-Finishes net before text now (Ok done) = WroteLines (NetGives net text) None before now
-Finishes net before text now (Err (fails.Refused r)) = WroteLines (NetGives net text) (Some r) before now
+Finishes net before text now (Ok done) = Wrote (lines_with (NetGives net text) None) before now
+Finishes net before text now (Err (fails.Refused r)) = Wrote (lines_with (NetGives net text) (Some r)) before now
 Finishes net before text now (Err fails.WriteFault) =
-    Rose before.faults now.faults × WroteFront (NetGives net text) before now
+    Rose before.faults now.faults × CutShort (lines_of (NetGives net text)) before now
 Finishes net before text now (Err fails.ReadFault) = ⊥
 Finishes net before text now (Err fails.Memory) = ⊥
 
@@ -201,7 +201,7 @@ abbrev pub RowsEnd : Circuit → SinkState → Option (List ℕ) → Option (Lis
 RowsEnd net before first left now (Ok done) =
     IsAtEnd left × ((text : List ℕ) → first ≡ Some text → Finishes net before text now (Ok done))
 RowsEnd net before first left now (Err fails.ReadFault) =
-    ((text : List ℕ) → first ≡ Some text → WroteFront (NetGives net text) before now)
+    ((text : List ℕ) → first ≡ Some text → CutShort (lines_of (NetGives net text)) before now)
     × (taken : List ℕ) × (lines : List ℕ) × (first ≡ prepend_known taken left) × Stops (NetRows net) taken lines
     × (now.written ≡ append_known before.written lines)
 RowsEnd net before first left now (Err fail) =

@@ -3,8 +3,8 @@ use Rattle.std.proofs.lemmas.List.{length-take}
 use Rattle.std.proofs.lemmas.Bool.Decides.{nat_tests}
 use Rattle.std.proofs.lemmas.Grind.{common_steps}
 use Rattle.std.specs.Io.KnownBytes.{prepend_known}
-use Rattle.trace_reader.specs.States.{ReadsHead}
-use Rattle.trace_reader.specs.declared.answers.Head.TheVariants as head
+use Rattle.trace_text.specs.States.{ReadsHead}
+use Rattle.trace_text.specs.declared.answers.Head.TheVariants as head
 use Rattle.net_trace.proofs.StandLemmas.{read_only, reads_twice, taken_more}
 use Rattle.net_trace.proofs.HeadLemmas.{head_room, header_ends, header_more, header_refused, little_behind}
 use Rattle.net_trace.proofs.HeadLemmas.{none_follows, piece_short}

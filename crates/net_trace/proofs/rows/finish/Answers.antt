@@ -1,5 +1,5 @@
 use Rattle.std.proofs.Common.{◌++◌, ◌∷◌, [], true, sym, subst}
-use Rattle.trace_reader.specs.States.{ReadsRow}
+use Rattle.trace_text.specs.States.{ReadsRow}
 use Rattle.net_trace.proofs.FinishLemmas.{finish_refused, finish_end, finish_row, finish_cut}
 use Rattle.net_trace.proofs.rows.finish.Goals as goal
 

@@ -1,7 +1,7 @@
 use Rattle.std.proofs.Common.{◌≡◌, ◌<◌, ◌≤◌, ◌-◌, ℕ, List, length, Option}
 use Rattle.pbs_io.specs.Outside.{SinkState}
 use Rattle.net_core.specs.Circuits.{Circuit}
-use Rattle.trace_reader.specs.declared.answers.Phase.TheVariants as phase
+use Rattle.trace_text.specs.declared.answers.Phase.TheVariants as phase
 use Rattle.net_trace.specs.inner.Steps.{OnlyReads, Standing}
 use Rattle.net_trace.proofs.rows.read_rows.Given as goal
 

@@ -1,6 +1,6 @@
 use Rattle.std.proofs.Common.{◌<◌, ◌≤◌, ◌++◌, false, length, drop, arith, subst, sym}
 use Rattle.std.proofs.lemmas.Bool.Decides.{nat_tests}
-use Rattle.trace_reader.specs.States.{ReadsRow}
+use Rattle.trace_text.specs.States.{ReadsRow}
 use Rattle.net_trace.proofs.TextLemmas.{more_grows, row_grows}
 use Rattle.net_trace.proofs.PieceLemmas.{drop_twice, good_phase, length_left, left_row, piece_empty}
 use Rattle.net_trace.proofs.PieceLemmas.{piece_used, row_added, row_cut, row_refused, none_behind, of_rest}

@@ -2,7 +2,7 @@ use Rattle.std.proofs.Common.{◌≡◌, ◌≤◌, ◌+◌, ◌-◌, ℕ, List,
 use Rattle.pbs_io.specs.Outside.{SinkState}
 use Rattle.pbs_base.specs.declared.entry.Entry.{Entry}
 use Rattle.net_core.specs.Circuits.{Circuit}
-use Rattle.trace_reader.specs.declared.answers.Phase.TheVariants as phase
+use Rattle.trace_text.specs.declared.answers.Phase.TheVariants as phase
 use Rattle.net_trace.specs.inner.Steps.{Read, Shown}
 use Rattle.net_trace.proofs.PieceLemmas.{PieceSoFar}
 use Rattle.net_trace.proofs.rows.write_piece.Given as goal

@@ -1,5 +1,5 @@
 use Rattle.std.proofs.Common.{◌≡◌, ◌++◌, subst}
-use Rattle.trace_reader.specs.Headers.{NoHeader, trace}
+use Rattle.trace_text.specs.Headers.{NoHeader, trace}
 use Rattle.net_trace.proofs.OpenLemmas.{fault_ends, opened_ends, refused_ends, same_ports}
 use Rattle.net_trace.proofs.run.run_opened.Goals as goal
 

@@ -1,5 +1,5 @@
 use Rattle.std.proofs.Common.{ap, ◌∙◌}
-use Rattle.trace_reader.specs.States.{ReaderState}
+use Rattle.trace_text.specs.States.{ReaderState}
 use Rattle.net_trace.proofs.EndLemmas.{both_go_on, faults_later, few_not_opened, few_taken, no_memory_yet, open_failed}
 use Rattle.net_trace.proofs.EndLemmas.{run_ends, untouched}
 use Rattle.net_trace.proofs.run.simulate.Goals as goal

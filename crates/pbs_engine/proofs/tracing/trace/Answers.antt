@@ -1,7 +1,9 @@
 use Rattle.std.proofs.Common.{Err, refl}
 use Rattle.pbs_engine.specs.Right.{ReadsBack}
 use Rattle.pbs_engine.specs.declared.fail.EngineFail.TheVariants as engine
-use Rattle.pbs_engine.proofs.EndLemmas.{net_ends, text_refused, little, few}
+use Rattle.net_trace.proofs.EndingLemmas.{took_few}
+use Rattle.pbs_engine.specs.Outcomes.{OfRefused, text_task}
+use Rattle.pbs_engine.proofs.EndLemmas.{net_ends, no_memory, refused_at_once}
 use Rattle.pbs_engine.proofs.tracing.trace.Goals as goal
 
 pub returns-in-Ok-clause-ends : goal.returns-in-Ok-clause-ends
@@ -12,25 +14,27 @@ returns-in-Ok-clause-ends g c =
 
 pub returns-in-Ok-clause-untouched : goal.returns-in-Ok-clause-untouched
 returns-in-Ok-clause-untouched g c = λ r refused.
-    let back = c.in-Ok.ensures in absurd (c.one_run.ensures.apart c.args.text.now back.spec r back.run refused)
+    let back = c.in-Ok.ensures in absurd (c.one_compiled.ensures.apart c.args.text.now back.spec r back.run refused)
 
 pub returns-in-Ok-clause-no_fault : goal.returns-in-Ok-clause-no_fault
 returns-in-Ok-clause-no_fault g c = λ r refused.
-    let back = c.in-Ok.ensures in absurd (c.one_run.ensures.apart c.args.text.now back.spec r back.run refused)
+    let back = c.in-Ok.ensures in absurd (c.one_compiled.ensures.apart c.args.text.now back.spec r back.run refused)
 
 pub returns-in-Err-Refused-clause-ends : goal.returns-in-Err-Refused-clause-ends
 returns-in-Err-Refused-clause-ends g c =
     let back : ReadsBack c.args.text.now (Err (engine.Refused c.in-Err-Refused.refusal)) =
     rw c.in-Err-Refused.field-0-is at c.in-Err-Refused.ensures in
-    rw c.in-Err-Refused.field-0-is (text_refused c.args.text.now c.args.name.now c.in-Err-Refused.refusal
-    (g.S.Shelf.state c.args.shelf.now)
-    (g.K.Sink.state c.args.sink.now) back)
+    rw c.in-Err-Refused.field-0-is (refused_at_once (text_task c.args.name.now) c.args.text.now
+    c.in-Err-Refused.refusal (g.S.Shelf.state c.args.shelf.now) (g.K.Sink.state c.args.sink.now)
+    (λ bytes. OfRefused back))
 
 pub returns-in-Err-Refused-clause-few : goal.returns-in-Err-Refused-clause-few
-returns-in-Err-Refused-clause-few g c = λ files told. few _ _
+returns-in-Err-Refused-clause-few g c = λ files told. took_few _ _ _ refl
 
 pub returns-in-Err-Memory-clause-ends : goal.returns-in-Err-Memory-clause-ends
-returns-in-Err-Memory-clause-ends g c = (refl, λ files told. little _ _)
+returns-in-Err-Memory-clause-ends g c =
+    no_memory (text_task c.args.name.now) c.args.text.now (g.S.Shelf.state c.args.shelf.now)
+    (g.K.Sink.state c.args.sink.now)
 
 pub returns-in-Err-Memory-clause-few : goal.returns-in-Err-Memory-clause-few
-returns-in-Err-Memory-clause-few g c = λ files told. few _ _
+returns-in-Err-Memory-clause-few g c = λ files told. took_few _ _ _ refl

@@ -1,6 +1,6 @@
 use Rattle.std.proofs.Common.{◌∙◌, Some, Bor, List, ℕ, sym, ap, arith}
 use Rattle.trace_text.specs.Reports.{is_on}
-use Rattle.trace_text.proofs.RowLemmas.{number_held, number_unheld, name_passed, name_held, name_unheld, line_ended}
+use Rattle.trace_text.proofs.ReportLemmas.{number_held, number_unheld, name_passed, name_held, name_unheld, line_ended}
 use Rattle.trace_text.proofs.row.hold_row.Goals as goal
 use Rattle.trace_text.proofs.row.hold_row.Goals.{then-any, else-any}
 

@@ -1,6 +1,6 @@
 use Rattle.trace_text.specs.HeldBytes.{held_bytes}
 use Rattle.trace_text.specs.Reports.{is_on}
-use Rattle.trace_text.proofs.RowLemmas.{RowHeld}
+use Rattle.trace_text.proofs.ReportLemmas.{RowHeld}
 use Rattle.trace_text.proofs.row.hold_row.Given as goal
 
 abbrev pub invariant-loop-n : goal.invariant-loop-n

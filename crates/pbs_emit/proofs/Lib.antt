@@ -1,6 +1,0 @@
-mod Lists
-mod Declared
-mod Counted
-mod Ports
-mod Pins
-mod Emitting

@@ -1,0 +1,10 @@
+use Rattle.pbs_engine.proofs.Declared.{inputs_are_words, actions_are_words}
+use Rattle.pbs_engine.proofs.laws.names_are_words.Goals as goal
+
+pub returns : goal.returns
+returns c = λ text spec stands unbroken. record {
+  inputs = inputs_are_words text spec stands;
+  actions = actions_are_words text spec stands;
+  inputs_once = c.declared_once.ensures.inputs spec unbroken;
+  actions_once = c.declared_once.ensures.actions spec unbroken;
+}

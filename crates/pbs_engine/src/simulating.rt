@@ -1,0 +1,45 @@
+// Runs the text of a netlist on a trace.
+ghost use Rattle.std.specs.Prelude.{◌≡◌, ◌≢◌, ◌≤◌, Err};
+ghost use Rattle.std.specs.Option.{ForSome};
+ghost use Rattle.pbs_io.specs.Outside.{GoesOn, content_of};
+ghost use Rattle.pbs_io.specs.Taken.{TakesAtMost};
+ghost use Rattle.pbs_base.specs.declared.refusal.Refusal.{Refusal as RefusalValue};
+ghost use Rattle.vlog_text.specs.Reading.{IsRefusedBy};
+ghost use Rattle.net_trace.specs.declared.fail.RunFail.TheVariants as fails;
+ghost use Rattle.net_trace.specs.Endings.{TaskEnds};
+ghost use Rattle.pbs_engine.specs.Outcomes.{netlist_task};
+
+use net_trace::{RunFail, simulate};
+use pbs_io::{Shelf, Sink};
+use std::alloc::Global;
+use vlog_read::{VlogFail, one_answer, read_netlist};
+
+/// Reads the netlist and writes its report on the named trace, which is opened in slot 1: each row is written as it
+/// comes, and the line of the refusal in which a trace may end isn't written. `Refused` comes by the rules of netlists,
+/// and then nothing is opened or written, or by those of traces.
+pub fn sim<S: Shelf, K: Sink>(
+    alloc: Global,
+    text: &[u8],
+    shelf: &mut S,
+    name: &str,
+    sink: &mut K,
+) -> Result<(), RunFail>
+    ensures goes_on { GoesOn (S.state shelf.old) (S.state shelf.new) }
+    ensures other { (S.state shelf.new).slots 0 ≡ (S.state shelf.old).slots 0 }
+    ensures later { (K.state sink.old).faults ≤ (K.state sink.new).faults }
+    ensures ends { TaskEnds (netlist_task name.now) text.now (S.state shelf.old) (S.state shelf.new)
+        (K.state sink.old) (K.state sink.new) result }
+    ensures few { ForSome (S.state shelf.old).files (λ files. TakesAtMost 67108865 (content_of files name.now)
+        ((S.state shelf.old).slots 1) ((S.state shelf.new).slots 1)) }
+    ensures untouched { (r : RefusalValue) → IsRefusedBy text.now r
+        → (shelf.new ≡ shelf.old) × (sink.new ≡ sink.old) }
+    ensures no_fault { (r : RefusalValue) → IsRefusedBy text.now r
+        → (result ≢ Err fails.ReadFault) × (result ≢ Err fails.WriteFault) }
+{
+    one_answer();
+    match read_netlist(alloc, text) {
+        Ok(net) => simulate(alloc, &net, shelf, name, sink),
+        Err(VlogFail::Refused(refusal)) => Err(RunFail::Refused(refusal)),
+        Err(VlogFail::Memory) => Err(RunFail::Memory),
+    }
+}

@@ -1,6 +1,0 @@
-use Rattle.std.proofs.Common.{◌≡◌, false, take}
-use Rattle.trace_reader.specs.inner.Names.{has_byte}
-use Rattle.trace_reader.proofs.names.front_length.Given as goal
-
-abbrev pub invariant-loop-n : goal.invariant-loop-n
-invariant-loop-n l = has_byte l.byte (take l.n l.text) ≡ false

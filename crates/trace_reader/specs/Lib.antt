@@ -1,5 +1,0 @@
-pub mod Traces
-pub mod Headers
-pub mod States
-pub mod Steps
-pub mod inner
