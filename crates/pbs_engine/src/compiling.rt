@@ -4,9 +4,9 @@ ghost use Rattle.pbs_engine.specs.Right.{Compiles, IsVerilogOf, ReadsBack};
 
 use crate::controller::make;
 use crate::fail::EngineFail;
+use crate::laws::emitted_stands;
 use net_core::Netlist;
 use pbs_check::laws::within_limits;
-use crate::laws::emitted_stands;
 use std::alloc::Global;
 use vlog_read::{VlogFail, one_answer, read_netlist};
 use vlog_write::write_netlist;

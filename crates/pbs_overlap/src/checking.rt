@@ -4,7 +4,7 @@ ghost use Rattle.pbs_ast.specs.Trees.{tree_of};
 ghost use Rattle.pbs_edges.specs.Found.{AreEdges};
 ghost use Rattle.pbs_overlap.specs.Ranges.{ranges};
 ghost use Rattle.pbs_overlap.specs.inner.Planning.{IsPlan};
-ghost use Rattle.pbs_overlap.specs.Told.{IsAccepted, IsOverlapCause, TellsTogether};
+ghost use Rattle.pbs_overlap.specs.Told.{BreaksNoScope, IsOverlapCause, TellsTogether};
 
 use crate::fail::OverlapFail;
 use crate::pairs::Pairs;
@@ -18,7 +18,7 @@ use std::alloc::Global;
 /// lowest such scope, with its span.
 pub fn check_overlap(alloc: Global, main: &Main, edges: &Edges) -> Result<Pairs, OverlapFail>
     requires { AreEdges (tree_of main.now.tree) edges.now }
-    ensures accepted { IfOk result (λ pairs. IsAccepted (tree_of main.now.tree)) }
+    ensures accepted { IfOk result (λ pairs. BreaksNoScope (tree_of main.now.tree)) }
     ensures together { IfOk result (λ pairs. TellsTogether (tree_of main.now.tree) pairs) }
     ensures cause { IfErr result (IsOverlapCause (tree_of main.now.tree)) }
 {

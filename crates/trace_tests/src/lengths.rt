@@ -37,34 +37,21 @@ fn refused_at_last(alloc: Global, ports: &Names, last: &[u8]) -> Result<Option<R
     }
 }
 
-#[test]
-fn too_long(rt: HostRuntime) -> Result<(), Fail> {
-    let alloc = rt.alloc();
-    let ports = named(alloc, &[b"a"])?;
-    assert!(rt; ports.len() == 1);
-    let found = refused_at_last(alloc, &ports, b"a")?;
-    assert!(rt; found == Some(refusal(1, 67_108_864, 67_108_865)));
-    Ok(())
-}
+// Behind 67,108,864 letters: one more, the newline that comes too late, and nothing, for a line that ends with the text
+// may have so many bytes (this one has no header's form).
+const ENDS: &[(&'static [u8], Refusal)] = &[
+    (b"a", refusal(1, 67_108_864, 67_108_865)),
+    (b"\n", refusal(1, 67_108_864, 67_108_865)),
+    (b"", refusal(2, 0, 67_108_864)),
+];
 
-// The line's newline comes too late.
 #[test]
-fn ended_too_late(rt: HostRuntime) -> Result<(), Fail> {
+fn longest_headers(rt: HostRuntime) -> Result<(), Fail> {
     let alloc = rt.alloc();
     let ports = named(alloc, &[b"a"])?;
     assert!(rt; ports.len() == 1);
-    let found = refused_at_last(alloc, &ports, b"\n")?;
-    assert!(rt; found == Some(refusal(1, 67_108_864, 67_108_865)));
-    Ok(())
-}
-
-// A line that ends with the text may have so many bytes: this one has no header's form.
-#[test]
-fn longest(rt: HostRuntime) -> Result<(), Fail> {
-    let alloc = rt.alloc();
-    let ports = named(alloc, &[b"a"])?;
-    assert!(rt; ports.len() == 1);
-    let found = refused_at_last(alloc, &ports, b"")?;
-    assert!(rt; found == Some(refusal(2, 0, 67_108_864)));
+    for (last, wanted) in ENDS {
+        assert_eq!(rt; refused_at_last(alloc, &ports, *last)?, Some(*wanted));
+    }
     Ok(())
 }

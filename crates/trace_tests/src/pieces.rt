@@ -107,70 +107,7 @@ pub(crate) fn finds(
     }
 }
 
-// The text in one piece, and with an empty one behind or before it.
-fn finds_whole(alloc: Global, ports: &Names, text: &[u8], wanted: Wanted) -> Result<bool, Fail>
-    requires { length ports.now ≤ 64 }
-{
-    if !finds(alloc, ports, &[text], wanted)? {
-        return Ok(false);
-    }
-    if !finds(alloc, ports, &[text, b""], wanted)? {
-        return Ok(false);
-    }
-    finds(alloc, ports, &[b"", text, b"", b""], wanted)
-}
-
-// The text in each two pieces.
-fn finds_in_two(alloc: Global, ports: &Names, text: &[u8], wanted: Wanted) -> Result<bool, Fail>
-    requires { length ports.now ≤ 64 }
-{
-    for n in 0..text.len() {
-        let (front, back) = text.split_at(n);
-        if !finds(alloc, ports, &[front, back], wanted)? {
-            return Ok(false);
-        }
-        if !finds(alloc, ports, &[front, back, b""], wanted)? {
-            return Ok(false);
-        }
-    }
-    Ok(true)
-}
-
-// The text in each three pieces, of which this is the first.
-fn finds_behind(
-    alloc: Global,
-    ports: &Names,
-    front: &[u8],
-    text: &[u8],
-    wanted: Wanted,
-) -> Result<bool, Fail>
-    requires { length ports.now ≤ 64 }
-{
-    for n in 0..text.len() {
-        let (middle, back) = text.split_at(n);
-        if !finds(alloc, ports, &[front, middle, back], wanted)? {
-            return Ok(false);
-        }
-        if !finds(alloc, ports, &[front, middle, back, b""], wanted)? {
-            return Ok(false);
-        }
-    }
-    Ok(true)
-}
-
-fn finds_in_three(alloc: Global, ports: &Names, text: &[u8], wanted: Wanted) -> Result<bool, Fail>
-    requires { length ports.now ≤ 64 }
-{
-    for n in 0..text.len() {
-        let (front, back) = text.split_at(n);
-        if !finds_behind(alloc, ports, front, back, wanted)? {
-            return Ok(false);
-        }
-    }
-    Ok(true)
-}
-
-/// Whether this is found in the text, in whatever one, two or three pieces it comes.
+/// Whether this is found in the text, in whatever one, two or three pieces it comes, and with an empty one behind.
 pub(crate) fn finds_each_way(
     alloc: Global,
     ports: &Names,
@@ -179,11 +116,16 @@ pub(crate) fn finds_each_way(
 ) -> Result<bool, Fail>
     requires { length ports.now ≤ 64 }
 {
-    if !finds_whole(alloc, ports, text, wanted)? {
-        return Ok(false);
+    for n in 0..=text.len() {
+        let (front, rest) = text.split_at(n);
+        for m in 0..=rest.len() {
+            let (middle, back) = rest.split_at(m);
+            let whole = finds(alloc, ports, &[front, middle, back], wanted)?;
+            let with_more = finds(alloc, ports, &[front, middle, back, b""], wanted)?;
+            if !whole || !with_more {
+                return Ok(false);
+            }
+        }
     }
-    if !finds_in_two(alloc, ports, text, wanted)? {
-        return Ok(false);
-    }
-    finds_in_three(alloc, ports, text, wanted)
+    Ok(true)
 }
