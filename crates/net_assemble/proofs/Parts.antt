@@ -15,7 +15,7 @@ use Rattle.vlog_text.specs.declared.raw.RawGate.{RawGate}
 use Rattle.vlog_text.specs.declared.raw.RawReg.{RawReg}
 use Rattle.vlog_text.specs.declared.raw.RawNetlist.{RawNetlist}
 use Rattle.vlog_text.specs.Words.{has_word, target_name, repeated, decl_names, is_named, uses}
-use Rattle.vlog_text.specs.Orders as listed
+use Rattle.vlog_text.specs.Orders.{place_in, renumbered, reordered}
 use Rattle.vlog_text.specs.Refusing.{refusals, rule_4, rule_5, rule_6, rule_7, rule_8, declared, first_broken}
 use Rattle.vlog_text.specs.Standing.{is_declared, is_port, inputs, outputs, output_of, net_of}
 use Rattle.vlog_text.specs.Standing.{resolved, text_gates, the_order, pin_wire, data_wire, registers, register_wire}
@@ -25,9 +25,7 @@ use Rattle.net_order.specs.declared.kinds.KindTable.{KindTable}
 use Rattle.net_order.specs.declared.firsts.Firsts.{Firsts}
 use Rattle.net_order.specs.declared.wires.Numbers.{Numbers}
 use Rattle.net_order.specs.Names.{first_in, kinds_in, is_plain, IsFirsts, KnowsKinds}
-use Rattle.net_order.specs.Moves as moves
 use Rattle.net_order.specs.Wires.{AreNumbers, capped, capped_gate}
-use Rattle.net_order.proofs.Bridge.{reordered_is}
 use Rattle.net_order.proofs.Standings.{map_position}
 use Rattle.net_order.proofs.Earliest.{unrefused_is}
 use Rattle.net_assemble.specs.inner.Parts.{IsChecked, ArePlaces, output_at}
@@ -78,7 +76,7 @@ module _ (raw : RawNetlist) (numbers : Numbers) (places : List ℕ) (are : AreNu
   output_is n =
       ap (λ (g : ℕ). let new : Output = record { name = n.word; gate = g } in new)
       (placed.each (unwrap_or (first_in numbers.gates n.word) 0)
-      ∙ ap (λ o. listed.place_in (the_order raw) (unwrap_or o 0))
+      ∙ ap (λ o. place_in (the_order raw) (unwrap_or o 0))
       (are.gates_are.finds n.word ∙ map_position (λ (g : RawGate). target_name g.target) n.word 0 raw.gates))
 
   pub outputs_are : map (output_at numbers places)
@@ -91,10 +89,9 @@ module _ (raw : RawNetlist) (numbers : Numbers) (places : List ℕ) (are : AreNu
 -- ---- gates
 
 pub gates_are : (raw : RawNetlist) (gates : List gate.Gate) (order : List ℕ) → gates ≡ text_gates raw
-    → order ≡ the_order raw → moves.reordered gates order ≡ listed.reordered (text_gates raw) (the_order raw)
+    → order ≡ the_order raw → reordered gates order ≡ reordered (text_gates raw) (the_order raw)
 gates_are raw gates order e o =
-    sym (reordered_is gates order) ∙ ap (λ gs. listed.reordered gs order) e
-    ∙ ap (λ ns. listed.reordered (text_gates raw) ns) o
+    ap (λ gs. reordered gs order) e ∙ ap (λ ns. reordered (text_gates raw) ns) o
 
 -- ---- registers
 
@@ -119,7 +116,7 @@ position_none p k (x ∷ xs) e = go (p x) (λ h. position_none p (k + 1) xs h) e
     go false more e = more e
 
 renumbered_is : (raw : RawNetlist) (places : List ℕ) → ArePlaces raw places → (w : Wire)
-    → moves.renumbered (slice_index places) w ≡ listed.renumbered (the_order raw) w
+    → renumbered (slice_index places) w ≡ renumbered (place_in (the_order raw)) w
 renumbered_is raw places are (wire.Const b) = refl
 renumbered_is raw places are wire.Reset = refl
 renumbered_is raw places are (wire.Input n) = refl
@@ -135,12 +132,12 @@ module _ (raw : RawNetlist) (regs : Firsts) (are : IsFirsts (map (λ (r : RawReg
 
   pub driven : (places : List ℕ) (n : ℕ) (x : RawReg) (w new : Wire) → Some n ≡ first_in regs name.word
       → slice_get raw.regs n ≡ Some x → length (inputs raw) ≤ 64 → ArePlaces raw places
-      → w ≡ capped (pin_wire raw x.wire) → new ≡ moves.renumbered (slice_index places) w → new ≡ register_wire raw name
+      → w ≡ capped (pin_wire raw x.wire) → new ≡ renumbered (slice_index places) w → new ≡ register_wire raw name
   driven places n x w new e at few placed is moved =
       let r = position_find (λ (r : RawReg). has_word name.word r.target) 0 raw.regs n (position_is (Some n) e) in
       let same : r.0 ≡ n = omega (arith, r.1) in
       moved ∙ renumbered_is raw places placed w
-      ∙ ap (λ (v : Wire). listed.renumbered (the_order raw) v) (is ∙ capped_pin raw few x.wire)
+      ∙ ap (λ (v : Wire). renumbered (place_in (the_order raw)) v) (is ∙ capped_pin raw few x.wire)
       ∙ ap (λ o. data_wire raw o) (sym (r.2 ∙ ap (λ j. slice_get raw.regs j) same ∙ at))
 
   pub undriven : None ≡ first_in regs name.word → wire.Const false ≡ register_wire raw name
@@ -182,18 +179,18 @@ module _ (raw : RawNetlist) (checked : Checked) (is : IsChecked raw checked) whe
       ∙ outputs_are raw checked.numbers places is.numbers placed
 
   pub moved_are : (gates new : List gate.Gate) (order : List ℕ) → length (inputs raw) ≤ 64 → gates ≡ checked.gates
-      → order ≡ checked.order.items → new ≡ moves.reordered gates order
-      → new ≡ listed.reordered (text_gates raw) (the_order raw)
+      → order ≡ checked.order.items → new ≡ reordered gates order
+      → new ≡ reordered (text_gates raw) (the_order raw)
   moved_are gates new order few e o n = n ∙ gates_are raw gates order (e ∙ is.gates ∙ uncapped raw few) (o ∙ is.order)
 
 pub circuit_is : (raw : RawNetlist) (names : List (List ℕ)) (gates : List gate.Gate) (wires : List Wire)
     (outs : List Output) → names ≡ map (λ (n : RawName). n.word) (inputs raw)
-    → gates ≡ listed.reordered (text_gates raw) (the_order raw) → wires ≡ map (register_wire raw) (registers raw)
+    → gates ≡ reordered (text_gates raw) (the_order raw) → wires ≡ map (register_wire raw) (registers raw)
     → outs ≡ map (output_of raw) (outputs raw) → circuit_of names gates wires outs ≡ net_of raw
 circuit_is raw names gates wires outs n g w o =
     ap (λ (ns : List (List ℕ)). circuit_of ns gates wires outs) n
     ∙ ap (λ (gs : List gate.Gate). circuit_of (map (λ (n : RawName). n.word) (inputs raw)) gs wires outs) g
     ∙ ap (λ (ws : List Wire). circuit_of (map (λ (n : RawName). n.word) (inputs raw))
-    (listed.reordered (text_gates raw) (the_order raw)) ws outs) w
+    (reordered (text_gates raw) (the_order raw)) ws outs) w
     ∙ ap (λ (os : List Output). circuit_of (map (λ (n : RawName). n.word) (inputs raw))
-    (listed.reordered (text_gates raw) (the_order raw)) (map (register_wire raw) (registers raw)) os) o
+    (reordered (text_gates raw) (the_order raw)) (map (register_wire raw) (registers raw)) os) o

@@ -8,10 +8,8 @@ use Rattle.std.proofs.lemmas.Bool.{ne_eqb}
 use Rattle.std.proofs.lemmas.List.{length-map}
 use Rattle.net_core.specs.declared.gate.Gate as gate
 use Rattle.vlog_text.specs.declared.raw.RawNetlist.{RawNetlist}
-use Rattle.vlog_text.specs.Orders.{first_from, then_on, order_from, place_in}
+use Rattle.vlog_text.specs.Orders.{is_among, first_from, then_on, order_from, place_in}
 use Rattle.vlog_text.specs.Standing.{resolved, text_gates, the_order}
-use Rattle.net_order.specs.Moves.{place_from}
-use Rattle.net_order.proofs.Bridge.{order_same}
 use Rattle.net_order.proofs.TextGates.{order_below}
 use Rattle.net_assemble.specs.inner.Parts.{ArePlaces}
 
@@ -20,7 +18,7 @@ use Rattle.net_assemble.specs.inner.Parts.{ArePlaces}
 order_short : (gates : List gate.Gate) (left : ℕ) (taken : List ℕ)
     → length (order_from gates left taken) ≤ length taken + left
 order_short gates zero taken = omega arith
-order_short gates (suc left) taken = go (first_from taken zero gates) (λ n. order_short gates left (taken ++ n ∷ []))
+order_short gates (suc left) taken = go (first_from (is_among taken) zero gates) (λ n. order_short gates left (taken ++ n ∷ []))
   where
     go : (o : Option ℕ) → ((n : ℕ) → length (order_from gates left (taken ++ n ∷ [])) ≤ length (taken ++ n ∷ []) + left)
         → length (then_on o taken (λ n. order_from gates left (taken ++ n ∷ []))) ≤ length taken + suc left
@@ -43,7 +41,7 @@ pub in_order : (raw : RawNetlist) (order : List ℕ) → order ≡ the_order raw
 in_order raw order e i n at =
     omega (
       arith,
-      order_below (text_gates raw) order (e ∙ order_same (text_gates raw)) i n at,
+      order_below (text_gates raw) order e i n at,
       length-map raw.gates (resolved raw),
     )
 
@@ -68,7 +66,7 @@ within_or_past (suc n) (suc count) =
 
 pub are_places : (raw : RawNetlist) (count : ℕ) (order places : List ℕ) → order ≡ the_order raw
     → count ≡ length raw.gates → length places ≡ count
-    → ((n : ℕ) → n < count → slice_index places n ≡ place_from 0 order n) → ArePlaces raw places
+    → ((n : ℕ) → n < count → slice_index places n ≡ place_in order n) → ArePlaces raw places
 are_places raw count order places e all long placed = record {
   each = λ n. elim (within_or_past n count) [
     | inl h ↦ placed n h ∙ ap (λ o. place_in o n) e

@@ -1,6 +1,6 @@
 // The new numbers of gates.
 ghost use Rattle.std.specs.Prelude.{◌≡◌, slice_index};
-ghost use Rattle.net_order.specs.Moves.{renumbered};
+ghost use Rattle.vlog_text.specs.Orders.{renumbered};
 
 use net_core::Wire;
 

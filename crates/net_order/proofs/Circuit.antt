@@ -14,11 +14,11 @@ use Rattle.vlog_text.specs.declared.raw.RawNetlist.{RawNetlist}
 use Rattle.vlog_text.specs.declared.raw.RawPin.{RawPin}
 use Rattle.vlog_text.specs.Raw.{IsRaw}
 use Rattle.vlog_text.specs.Words.{is_named, gate_targets}
-use Rattle.vlog_text.specs.Orders.{renumbered, moved, reordered}
+use Rattle.vlog_text.specs.Orders.{place_in, renumbered, moved, reordered}
 use Rattle.vlog_text.specs.Standing.{net_of, inputs, outputs, registers, is_output, is_declared, pin_wire, resolved}
 use Rattle.vlog_text.specs.Standing.{text_gates, the_order, register_wire, output_of}
 use Rattle.vlog_text.specs.Refusing.{first_broken}
-use Rattle.net_order.proofs.Bridge.{earlier_in_order}
+use Rattle.net_order.proofs.Placing.{reordered_earlier}
 use Rattle.net_order.proofs.NameLists.{map_at, filter_map_has, Differ, differ_filter, differ_apart}
 use Rattle.net_order.proofs.Unbroken.{Unbroken, unbroken_has}
 use Rattle.net_order.proofs.Counts.{few_inputs, few_outputs, few_registers}
@@ -32,16 +32,16 @@ module _ (raw : RawNetlist) (r : IsRaw raw) (u : Unbroken raw) where
     pub from : RawGate
     pub place : ℕ
     pub at : slice_get raw.gates place ≡ Some from
-    pub same : g ≡ moved (the_order raw) (resolved raw from)
+    pub same : g ≡ moved (place_in (the_order raw)) (resolved raw from)
 
   from_gate : (n : ℕ) (g : gate.Gate) → slice_get (reordered (text_gates raw) (the_order raw)) n ≡ Some g → FromGate g
   from_gate n g at =
-      let k = filter_map_has (λ n. option_map (moved (the_order raw)) (slice_get (text_gates raw) n)) (the_order raw) g
+      let k = filter_map_has (λ n. option_map (moved (place_in (the_order raw))) (slice_get (text_gates raw) n)) (the_order raw) g
       (record { place = n; is = at }) in
       go k.0 (slice_get (text_gates raw) k.0) refl k.2
     where
       go : (k : ℕ) (o : Option gate.Gate) → slice_get (text_gates raw) k ≡ o
-          → option_map (moved (the_order raw)) o ≡ Some g → FromGate g
+          → option_map (moved (place_in (the_order raw))) o ≡ Some g → FromGate g
       go k None e h = cc
       go k (Some x) e h =
           let f = map_at (resolved raw) raw.gates k x e in
@@ -49,7 +49,7 @@ module _ (raw : RawNetlist) (r : IsRaw raw) (u : Unbroken raw) where
             from = f.0;
             place = k;
             at = f.1;
-            same = sym (same_Some (moved (the_order raw) x) g h) ∙ ap (moved (the_order raw)) f.2;
+            same = sym (same_Some (moved (place_in (the_order raw)) x) g h) ∙ ap (moved (place_in (the_order raw))) f.2;
           }
 
   gate_fits : (n : ℕ) (g : gate.Gate) → slice_get (reordered (text_gates raw) (the_order raw)) n ≡ Some g
@@ -59,18 +59,18 @@ module _ (raw : RawNetlist) (r : IsRaw raw) (u : Unbroken raw) where
       record {
         there = record {
           each = λ i w e.
-              let new = map_at (renumbered (the_order raw)) (map (pin_wire raw) f.from.pins) i w
+              let new = map_at (renumbered (place_in (the_order raw))) (map (pin_wire raw) f.from.pins) i w
               (subst (λ (x : gate.Gate). slice_get x.pins i ≡ Some w) f.same e) in
               let old = map_at (pin_wire raw) f.from.pins i new.0 new.1 in
-              pin_there raw r u n old.0 w (new.2 ∙ ap (renumbered (the_order raw)) old.2)
-              (λ m gate. (earlier_in_order (text_gates raw)).each n g i m at (e ∙ ap (λ v. Some v) gate));
+              pin_there raw r u n old.0 w (new.2 ∙ ap (renumbered (place_in (the_order raw))) old.2)
+              (λ m gate. (reordered_earlier (text_gates raw)).each n g i m at (e ∙ ap (λ v. Some v) gate));
         };
         count = subst (λ (x : gate.Gate). HasItsPins x.kind (length x.pins)) (sym f.same)
             (subst (λ n. HasItsPins f.from.kind n) (sym (long f.from.pins)) (r.gates_fit f.place f.from f.at).count);
       }
     where
-      long : (pins : List RawPin) → length (map (renumbered (the_order raw)) (map (pin_wire raw) pins)) ≡ length pins
-      long pins = length-map (map (pin_wire raw) pins) (renumbered (the_order raw)) ∙ length-map pins (pin_wire raw)
+      long : (pins : List RawPin) → length (map (renumbered (place_in (the_order raw))) (map (pin_wire raw) pins)) ≡ length pins
+      long pins = length-map (map (pin_wire raw) pins) (renumbered (place_in (the_order raw))) ∙ length-map pins (pin_wire raw)
 
   output_is : (n : ℕ) (o : Output) → slice_get (map (output_of raw) (outputs raw)) n ≡ Some o
       → (x : RawName) × (slice_get (outputs raw) n ≡ Some x) × (o ≡ output_of raw x)

@@ -9,7 +9,6 @@ use Rattle.pbs_base.specs.declared.refusal.Refusal.{Refusal}
 use Rattle.vlog_text.specs.Refusing.{is_before, earlier_of, earliest, refusal, refusals, first_broken, broken, rule_4}
 use Rattle.vlog_text.specs.Refusing.{rule_5, rule_6, rule_7, rule_8}
 use Rattle.vlog_text.specs.declared.raw.RawName.{RawName}
-use Rattle.net_order.specs.Laws.{IsEarliest}
 use Rattle.net_order.specs.inner.Ordered.{or_next}
 use Rattle.net_order.proofs.Noting.{earliest_both}
 
@@ -86,14 +85,6 @@ still_some a (x ∷ xs) h = still_some (earlier_of (Some a) x) xs h
 none_is : (places : List Refusal) → earliest None places ≡ None → places ≡ []
 none_is [] h = refl
 none_is (x ∷ xs) h = absurd (still_some x xs h)
-
-pub refused_is : (raw : RawNetlist) (r : Refusal) → first_broken raw ≡ Some r → IsEarliest (broken raw) r
-refused_is raw r h =
-    let f = found_is None (broken raw) r h in
-    record { there = elim f.from [ inl e ↦ absurd (none_some e) | inr p ↦ p ]; least = f.least }
-  where
-    none_some : None ≡ Some r → ⊥
-    none_some e = cc
 
 pub unrefused_is : (raw : RawNetlist) → first_broken raw ≡ None → broken raw ≡ []
 unrefused_is raw h = none_is (broken raw) h

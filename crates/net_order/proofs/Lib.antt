@@ -1,13 +1,9 @@
 pub mod WaitLists
 pub mod Tests
-pub mod First
 pub mod Steps
 pub mod Waking
 pub mod Ordering
 pub mod Placing
-pub mod Keeping
-pub mod Whole
-pub mod Bridge
 pub mod Noting
 pub mod Entries
 pub mod KindLemmas

@@ -10,8 +10,7 @@ use Rattle.std.proofs.lemmas.Bool.{ne_eqb, eq-eqb}
 use Rattle.std.proofs.Math.Seq.{take-append_seam}
 use Rattle.net_core.specs.declared.gate as netlist
 use Rattle.net_order.specs.declared.waiting.Waiter.{Waiter}
-use Rattle.vlog_text.specs.Orders.{is_among, then_on}
-use Rattle.net_order.specs.Taking.{first_from, order_from, order_of}
+use Rattle.vlog_text.specs.Orders.{is_among, then_on, first_from, order_from, order_of}
 use Rattle.net_order.proofs.Tests.{same_or_apart, or_right}
 use Rattle.net_order.proofs.Steps.{least_first, empty_none}
 use Rattle.net_order.specs.inner.Queues.{marked, IsQueue}

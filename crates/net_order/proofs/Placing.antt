@@ -14,12 +14,20 @@ use Rattle.net_core.specs.declared.gate.Wire.{Wire}
 use Rattle.net_core.specs.declared.gate.Wire.TheVariants.{Const, Reset, Input, Reg, Gate}
 use Rattle.net_core.specs.declared.gate as netlist
 use Rattle.vlog_text.specs.Orders.{is_among, then_on}
-use Rattle.net_order.specs.Taking.{is_settled, all_settled, can_be_taken, first_from, order_from, order_of, AllNamed}
-use Rattle.net_order.specs.Taking.{GoesOn}
-use Rattle.net_order.specs.Laws.{AreEarlier}
-use Rattle.net_order.specs.Moves.{place_from, renumbered, moved, reordered}
+use Rattle.vlog_text.specs.Orders.{is_settled, all_settled, can_be_taken, first_from, order_from, order_of, place_in}
+use Rattle.vlog_text.specs.Orders.{renumbered, moved, reordered}
+use Rattle.vlog_text.proofs.OrderLemmas.{AreEarlier, each_settled}
 use Rattle.net_order.proofs.Tests.{true_or_false, and_right}
-use Rattle.net_order.proofs.First.{each_settled}
+
+-- each of the numbers is the first gate that can be taken after those before it
+abbrev pub GoesOn : List netlist.Gate.Gate → List ℕ → List ℕ → Type 0
+GoesOn gates taken [] = Unit {0}
+GoesOn gates taken (n ∷ rest) =
+    (first_from (is_among taken) zero gates ≡ Some n) × GoesOn gates (taken ++ n ∷ []) rest
+
+-- the place of gate n in the order, from place k on
+abbrev pub place_from : ℕ → List ℕ → ℕ → ℕ
+place_from k order n = unwrap_or (position_from (nat_eq n) k order) 0
 
 -- the pins that are gates are below a number
 pub record PinsBelow (count : ℕ) (pins : List Wire) : Type 0 where
@@ -154,22 +162,22 @@ pin_was place (w ∷ pins) (suc i) m e = pin_was place pins i m e
 
 -- gates of these numbers, with the places that they have in the whole order
 abbrev placed : List netlist.Gate.Gate → List ℕ → List ℕ → List netlist.Gate.Gate
-placed gates order numbers = filter_map (λ n. option_map (moved (place_from 0 order)) (slice_get gates n)) numbers
+placed gates order numbers = filter_map (λ n. option_map (moved (place_in order)) (slice_get gates n)) numbers
 
 first_or_later : (gates : List netlist.Gate.Gate) (order taken : List ℕ) (x : ℕ) (rest : List ℕ)
     → order ≡ taken ++ x ∷ rest → (old : netlist.Gate.Gate) → all_settled (is_among taken) old.pins ≡ true
     → (j : ℕ) (g : netlist.Gate.Gate) (i m : ℕ)
-    → slice_get (moved (place_from 0 order) old ∷ placed gates order rest) j ≡ Some g
+    → slice_get (moved (place_in order) old ∷ placed gates order rest) j ≡ Some g
     → slice_get g.pins i ≡ Some (Gate m)
     → ((k : ℕ) → slice_get (placed gates order rest) k ≡ Some g → m < suc (length taken) + k)
     → m < length taken + j
 first_or_later gates order taken x rest e old settled zero g i m at pin later =
-    let same = same_Some (moved (place_from 0 order) old) g at in
-    let was = pin_was (place_from 0 order) old.pins i m
+    let same = same_Some (moved (place_in order) old) g at in
+    let was = pin_was (place_in order) old.pins i m
     (subst (λ (y : netlist.Gate.Gate). slice_get y.pins i ≡ Some (Gate m)) (sym same) pin) in
     let among = each_settled (is_among taken) old.pins i (Gate was.0) settled was.1.0 in
     let below = place_among 0 was.0 taken (x ∷ rest) among in
-    let place : place_from 0 order was.0 ≡ place_from 0 (taken ++ x ∷ rest) was.0 = ap (λ o. place_from 0 o was.0) e in
+    let place : place_in order was.0 ≡ place_in (taken ++ x ∷ rest) was.0 = ap (λ o. place_in o was.0) e in
     omega (arith, was.1.1)
 first_or_later gates order taken x rest e old settled (suc j) g i m at pin later = omega (arith, later j at)
 
@@ -183,7 +191,7 @@ earlier_from gates order taken (x ∷ rest) e h j g i m at pin =
     let there : slice_get gates x ≡ Some r.1 = subst (λ k. slice_get gates k ≡ Some r.1) (omega (arith, r.2)) r.3 in
     let settled = and_right (not (is_among taken x)) (all_settled (is_among taken) r.1.pins) r.4 in
     let behind : List netlist.Gate.Gate = placed gates order rest in
-    let next = ap (λ o. slice_get (cons_option (option_map (moved (place_from 0 order)) o) behind) j) (sym there) in
+    let next = ap (λ o. slice_get (cons_option (option_map (moved (place_in order)) o) behind) j) (sym there) in
     let split = e ∙ sym (append_assoc taken (x ∷ []) rest) in
     first_or_later gates order taken x rest e r.1 settled j g i m (next ∙ at) pin
     (λ k at_k. omega (

@@ -11,12 +11,12 @@ use Rattle.net_core.specs.declared.gate.Wire.{Wire}
 use Rattle.net_core.specs.declared.gate.Wire.TheVariants.{Const, Reset, Input, Reg, Gate}
 use Rattle.net_core.specs.declared.gate as netlist
 use Rattle.net_order.specs.declared.waiting.Waiter.{Waiter}
-use Rattle.net_order.specs.Taking.{is_settled, all_settled, can_be_taken, first_from}
+use Rattle.vlog_text.specs.Orders.{is_settled, all_settled, can_be_taken, first_from}
 use Rattle.net_order.specs.inner.Queues.{Has, SettledBetween, IsReady, IsWaiter, WaitsFor, IsWaiting, IsQueue, without}
 use Rattle.net_order.specs.inner.Queues.{wakes}
 use Rattle.net_order.proofs.Tests.{same_or_apart, true_or_false, set_same, set_other, least_le, differs, and_true}
 use Rattle.net_order.proofs.Tests.{without_other, wakes_has}
-use Rattle.net_order.proofs.First.{each_settled, settled_all, none_from, some_from}
+use Rattle.vlog_text.proofs.OrderLemmas.{each_settled, settled_all, none_from, some_from}
 
 -- a gate was taken
 pub record Marks (taken taken' : ℕ → Bool) (k : ℕ) : Type 0 where

@@ -16,15 +16,14 @@ use Rattle.vlog_text.specs.declared.raw.RawPin.{RawPin}
 use Rattle.vlog_text.specs.declared.raw.RawPin.TheVariants as pin
 use Rattle.vlog_text.specs.Raw.{IsRaw}
 use Rattle.vlog_text.specs.Words.{target_name}
-use Rattle.vlog_text.specs.Orders as listed
+use Rattle.vlog_text.specs.Orders.{is_among, is_settled, all_settled, can_be_taken, first_from, then_on, order_from}
+use Rattle.vlog_text.specs.Orders.{order_of}
 use Rattle.vlog_text.specs.Standing.{drives, driver, word_wire, pin_wire, resolved, text_gates, the_order}
 use Rattle.vlog_text.specs.Standing.{number_of, inputs, registers, is_plain_input, is_declared, is_input, is_reg}
 use Rattle.net_order.specs.declared.firsts.Firsts.{Firsts}
 use Rattle.net_order.specs.Names.{first_in, IsFirsts}
-use Rattle.net_order.specs.Taking.{AllNamed}
-use Rattle.net_order.specs.Taking as tested
+use Rattle.net_order.specs.inner.Named.{AllNamed}
 use Rattle.net_order.specs.Wires.{capped, capped_gate}
-use Rattle.net_order.proofs.Bridge.{order_same}
 use Rattle.net_order.proofs.Placing.{order_there}
 
 -- ---- bounds
@@ -101,34 +100,34 @@ module _ (raw : RawNetlist) (is : IsRaw raw) where
 
 -- ---- the order is that of the text
 
-settled_capped : (taken : List ℕ) (w : Wire) → listed.is_settled taken (capped w) ≡ listed.is_settled taken w
+settled_capped : (taken : ℕ → Bool) (w : Wire) → is_settled taken (capped w) ≡ is_settled taken w
 settled_capped taken (wire.Const b) = refl
 settled_capped taken wire.Reset = refl
 settled_capped taken (wire.Input n) = refl
 settled_capped taken (wire.Reg n) = refl
 settled_capped taken (wire.Gate n) = refl
 
-all_capped : (taken : List ℕ) (ws : List Wire) → listed.all_settled taken (map capped ws) ≡ listed.all_settled taken ws
+all_capped : (taken : ℕ → Bool) (ws : List Wire) → all_settled taken (map capped ws) ≡ all_settled taken ws
 all_capped taken [] = refl
 all_capped taken (w ∷ ws) =
-    ap (λ b. b && listed.all_settled taken (map capped ws)) (settled_capped taken w)
-    ∙ ap (λ b. listed.is_settled taken w && b) (all_capped taken ws)
+    ap (λ b. b && all_settled taken (map capped ws)) (settled_capped taken w)
+    ∙ ap (λ b. is_settled taken w && b) (all_capped taken ws)
 
-first_capped : (taken : List ℕ) (n : ℕ) (gs : List gate.Gate)
-    → listed.first_from taken n (map capped_gate gs) ≡ listed.first_from taken n gs
+first_capped : (taken : ℕ → Bool) (n : ℕ) (gs : List gate.Gate)
+    → first_from taken n (map capped_gate gs) ≡ first_from taken n gs
 first_capped taken n [] = refl
 first_capped taken n (g ∷ gs) =
-    ap (λ b. cond (not (listed.is_among taken n) && b) (Some n) (listed.first_from taken (suc n) (map capped_gate gs)))
+    ap (λ b. cond (not (taken n) && b) (Some n) (first_from taken (suc n) (map capped_gate gs)))
     (all_capped taken g.pins)
-    ∙ ap (λ o. cond (listed.can_be_taken taken n g.pins) (Some n) o) (first_capped taken (suc n) gs)
+    ∙ ap (λ o. cond (can_be_taken taken n g.pins) (Some n) o) (first_capped taken (suc n) gs)
 
 from_capped : (gates : List gate.Gate) (left : ℕ) (taken : List ℕ)
-    → listed.order_from (map capped_gate gates) left taken ≡ listed.order_from gates left taken
+    → order_from (map capped_gate gates) left taken ≡ order_from gates left taken
 from_capped gates zero taken = refl
 from_capped gates (suc left) taken =
-    ap (λ o. listed.then_on o taken (λ n. listed.order_from (map capped_gate gates) left (taken ++ n ∷ [])))
-    (first_capped taken zero gates)
-    ∙ ap (λ (more : ℕ → List ℕ). listed.then_on (listed.first_from taken zero gates) taken more)
+    ap (λ o. then_on o taken (λ n. order_from (map capped_gate gates) left (taken ++ n ∷ [])))
+    (first_capped (is_among taken) zero gates)
+    ∙ ap (λ (more : ℕ → List ℕ). then_on (first_from (is_among taken) zero gates) taken more)
     (λ i n. from_capped gates left (taken ++ n ∷ []) i)
 
 twice : (raw : RawNetlist) (gs : List RawGate)
@@ -137,13 +136,13 @@ twice raw [] = refl
 twice raw (g ∷ gs) = ap (λ xs. capped_gate (resolved raw g) ∷ xs) (twice raw gs)
 
 pub order_is : (raw : RawNetlist) (gates : List gate.Gate) (order : List ℕ)
-    → gates ≡ map (λ (g : RawGate). capped_gate (resolved raw g)) raw.gates → order ≡ tested.order_of gates
+    → gates ≡ map (λ (g : RawGate). capped_gate (resolved raw g)) raw.gates → order ≡ order_of gates
     → order ≡ the_order raw
 order_is raw gates order e o =
-    o ∙ sym (order_same gates) ∙ ap (λ gs. listed.order_of gs) (e ∙ twice raw raw.gates)
-    ∙ ap (λ n. listed.order_from (map capped_gate (text_gates raw)) n []) (length-map (text_gates raw) capped_gate)
+    o ∙ ap (λ gs. order_of gs) (e ∙ twice raw raw.gates)
+    ∙ ap (λ n. order_from (map capped_gate (text_gates raw)) n []) (length-map (text_gates raw) capped_gate)
     ∙ from_capped (text_gates raw) (length (text_gates raw)) []
 
-pub order_below : (gates : List gate.Gate) (order : List ℕ) → order ≡ tested.order_of gates
+pub order_below : (gates : List gate.Gate) (order : List ℕ) → order ≡ order_of gates
     → (i n : ℕ) → slice_get order i ≡ Some n → n < length gates
 order_below gates order o i n e = order_there gates i n (ap (λ xs. slice_get xs i) (sym o) ∙ e)

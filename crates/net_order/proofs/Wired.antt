@@ -34,8 +34,7 @@ use Rattle.vlog_text.specs.Standing.{data_wire, register_wire}
 use Rattle.vlog_text.specs.Refusing.{item_target, target_or, left_out}
 use Rattle.net_order.specs.inner.Queues.{Has}
 use Rattle.net_order.proofs.Tests.{true_or_false, differs}
-use Rattle.net_order.proofs.Waking.{some_at}
-use Rattle.net_order.proofs.Bridge.{order_same}
+use Rattle.vlog_text.proofs.OrderLemmas.{some_at}
 use Rattle.net_order.proofs.Placing.{order_there}
 use Rattle.net_order.proofs.NameLists.{same_word, word_is, has_any, map_at, filter_has, has_filter_map, filter_map_has}
 use Rattle.net_order.proofs.NameLists.{filter_map_long}
@@ -78,20 +77,20 @@ none_left order n (g ∷ gs) last e k within =
 order_short : (gates : List gate.Gate) (left : ℕ) (taken : List ℕ)
     → length (order_from gates left taken) ≤ length taken + left
 order_short gates zero taken = omega arith
-order_short gates (suc left) taken = go (first_from taken zero gates) (λ n. order_short gates left (taken ++ n ∷ []))
+order_short gates (suc left) taken = go (first_from (is_among taken) zero gates) (λ n. order_short gates left (taken ++ n ∷ []))
   where
     go : (o : Option ℕ) → ((n : ℕ) → length (order_from gates left (taken ++ n ∷ [])) ≤ length (taken ++ n ∷ []) + left)
         → length (then_on o taken (λ n. order_from gates left (taken ++ n ∷ []))) ≤ length taken + suc left
     go None more = omega arith
     go (Some n) more = omega (arith, more n, length-append taken (n ∷ []))
 
-still_there : (inputs registers gates : ℕ) (order : List ℕ) (w : Wire) → IsThere inputs registers 0 w
-    → IsThere inputs registers gates (renumbered order w)
-still_there i r g order (wire.Const b) h = tt
-still_there i r g order wire.Reset h = tt
-still_there i r g order (wire.Input n) h = h
-still_there i r g order (wire.Reg n) h = h
-still_there i r g order (wire.Gate n) h = absurd (omega arith)
+still_there : (inputs registers gates : ℕ) (place : ℕ → ℕ) (w : Wire) → IsThere inputs registers 0 w
+    → IsThere inputs registers gates (renumbered place w)
+still_there i r g place (wire.Const b) h = tt
+still_there i r g place wire.Reset h = tt
+still_there i r g place (wire.Input n) h = h
+still_there i r g place (wire.Reg n) h = h
+still_there i r g place (wire.Gate n) h = absurd (omega arith)
 
 number_below : (names : List RawName) (w : List ℕ) → is_named names w ≡ true → number_of names w < length names
 number_below names w h =
@@ -109,11 +108,10 @@ gate_count raw = length (reordered (text_gates raw) (the_order raw))
 
 pub ordered_count : (raw : RawNetlist) → gate_count raw ≡ length (the_order raw)
 ordered_count raw =
-    filter_map_long (λ n. option_map (moved (the_order raw)) (slice_get (text_gates raw) n)) (the_order raw) (λ n has.
+    filter_map_long (λ n. option_map (moved (place_in (the_order raw))) (slice_get (text_gates raw) n)) (the_order raw) (λ n has.
     let g = some_at (text_gates raw) n
-    (order_there (text_gates raw) has.place n
-    (ap (λ xs. slice_get xs has.place) (sym (order_same (text_gates raw))) ∙ has.is)) in
-    (moved (the_order raw) g.0, ap (λ o. option_map (moved (the_order raw)) o) g.1))
+    (order_there (text_gates raw) has.place n has.is) in
+    (moved (place_in (the_order raw)) g.0, ap (λ o. option_map (moved (place_in (the_order raw))) o) g.1))
 
 pub gates_short : (raw : RawNetlist) → gate_count raw ≤ length raw.gates
 gates_short raw =
@@ -222,7 +220,7 @@ module _ (raw : RawNetlist) (r : IsRaw raw) (u : Unbroken raw) where
       go false s = reset (is_declared raw is_input w) refl (ap as_input s)
 
   -- the pin of a gate that stands at this place
-  pub pin_there : (n : ℕ) (p : RawPin) (v : Wire) → v ≡ renumbered (the_order raw) (pin_wire raw p)
+  pub pin_there : (n : ℕ) (p : RawPin) (v : Wire) → v ≡ renumbered (place_in (the_order raw)) (pin_wire raw p)
       → ((m : ℕ) → v ≡ wire.Gate m → m < n) → IsThere (input_count raw) (register_count raw) n v
   pin_there n (pin.Const b) v e below = subst (λ x. IsThere (input_count raw) (register_count raw) n x) (sym e) tt
   pin_there n (pin.Prior k) v e below =
@@ -230,10 +228,10 @@ module _ (raw : RawNetlist) (r : IsRaw raw) (u : Unbroken raw) where
   pin_there n (pin.Name name) v e below = elim (word_there name.word) [
     | inl t ↦
         subst (λ x. IsThere (input_count raw) (register_count raw) n x) (sym e)
-        (still_there (input_count raw) (register_count raw) n (the_order raw) (word_wire raw name.word) t)
+        (still_there (input_count raw) (register_count raw) n (place_in (the_order raw)) (word_wire raw name.word) t)
     | inr g ↦
         let is : v ≡ wire.Gate (place_in (the_order raw) (driver raw name.word))
-        = e ∙ ap (renumbered (the_order raw)) g.is in
+        = e ∙ ap (renumbered (place_in (the_order raw))) g.is in
         subst (λ x. IsThere (input_count raw) (register_count raw) n x) (sym is)
         (below (place_in (the_order raw) (driver raw name.word)) is)
   ]
@@ -251,14 +249,14 @@ module _ (raw : RawNetlist) (r : IsRaw raw) (u : Unbroken raw) where
       ]) g.no_register
 
   operand_there : (p : RawPin) → IsOperand p → ((n : RawName) → pin_name p ≡ Some n → Has (uses raw) n)
-      → IsThere (input_count raw) (register_count raw) (gate_count raw) (renumbered (the_order raw) (pin_wire raw p))
+      → IsThere (input_count raw) (register_count raw) (gate_count raw) (renumbered (place_in (the_order raw)) (pin_wire raw p))
   operand_there (pin.Const b) h used = tt
   operand_there (pin.Prior k) h used = absurd h
   operand_there (pin.Name name) h used = elim (word_there name.word) [
-    | inl t ↦ still_there (input_count raw) (register_count raw) (gate_count raw) (the_order raw)
+    | inl t ↦ still_there (input_count raw) (register_count raw) (gate_count raw) (place_in (the_order raw))
         (word_wire raw name.word) t
     | inr g ↦
-        subst (λ x. IsThere (input_count raw) (register_count raw) (gate_count raw) (renumbered (the_order raw) x))
+        subst (λ x. IsThere (input_count raw) (register_count raw) (gate_count raw) (renumbered (place_in (the_order raw)) x))
         (sym g.is)
         (driver_there name.word (gate_word name.word (u.uses_declared name (used name refl)) g))
   ]

@@ -4,7 +4,8 @@ ghost use Rattle.std.specs.Prelude.{◌≡◌, ℕ, ◌<◌, Bool, true, false, 
 ghost use Rattle.std.specs.Prelude.{IfNone, slice_get, slice_set};
 ghost use Rattle.net_order.specs.declared.waiting.Waiter.{Waiter as WaiterValue};
 ghost use Rattle.std.specs.BTreeSet.{contains};
-ghost use Rattle.net_order.specs.Taking.{AllNamed, order_of};
+ghost use Rattle.vlog_text.specs.Orders.{order_of};
+ghost use Rattle.net_order.specs.inner.Named.{AllNamed};
 ghost use Rattle.net_order.specs.inner.Queues.{marked, SettledBetween, IsWaiter, IsReady, IsQueue, Popped, without};
 ghost use Rattle.net_order.specs.inner.Queues.{wakes};
 

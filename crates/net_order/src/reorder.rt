@@ -1,8 +1,8 @@
 // Gates in another order, with the pins renumbered.
 
 ghost use Rattle.std.specs.Prelude.{◌≡◌, ℕ, ◌<◌, ◌^◌, length, map, replicate, IfOk, slice_get, slice_index, Some};
-ghost use Rattle.net_order.specs.Taking.{AllNamed};
-ghost use Rattle.net_order.specs.Moves.{place_from, renumbered, moved, reordered};
+ghost use Rattle.vlog_text.specs.Orders.{place_in, renumbered, moved, reordered};
+ghost use Rattle.net_order.specs.inner.Named.{AllNamed};
 
 use net_core::{Gate, Gates, Pins, Wire};
 use pbs_base::Memory;
@@ -14,7 +14,7 @@ pub fn places(alloc: Global, count: usize, order: &[usize]) -> Result<Vec<u32>, 
     requires few { length order.now < 2 ^ 32 }
     ensures long { IfOk result (λ places. length places.items ≡ count) }
     ensures places { IfOk result (λ places. (n : ℕ) → n < count
-        → slice_index places.items n ≡ place_from 0 order.now n) }
+        → slice_index places.items n ≡ place_in order.now n) }
 {
     let mut places = zeros(alloc, count)?;
     let mut k = order.len();

@@ -29,7 +29,7 @@ use Rattle.vlog_text.specs.Orders.{order_of, place_in, renumbered, reordered}
 use Rattle.vlog_text.specs.Standing.{is_input, is_output, is_reg, is_clock, is_reset, is_declared, is_plain_input}
 use Rattle.vlog_text.specs.Standing.{inputs, outputs, registers, number_of, drives, driver, word_wire, pin_wire}
 use Rattle.vlog_text.specs.Standing.{resolved, text_gates, the_order, data_wire, register_wire, output_of, net_of}
-use Rattle.net_order.specs.Laws.{AreEarlier}
+use Rattle.vlog_text.proofs.OrderLemmas.{AreEarlier}
 use Rattle.vlog_round.proofs.Lists.{Each, each-map, each_so, each_at, each_from, each_all, filter_none}
 use Rattle.vlog_round.proofs.Lists.{filter_each, map-filter, map-map, map_same, map_itself, position-map, position_same}
 use Rattle.vlog_round.proofs.Names.{bytes_itself, bytes_apart, reg_once, port_group, groups_apart}
@@ -102,7 +102,7 @@ data-bare raw w (r ∷ rs) = by (targets_word w r) (data-bare raw w rs)
     by : (b : Bool) → data_wire raw (find (targets_word w) rs) ≡ data_wire raw (find (targets_word w) (map bare_reg rs))
         → data_wire raw (cond b (Some r) (find (targets_word w) rs))
         ≡ data_wire raw (cond b (Some (bare_reg r)) (find (targets_word w) (map bare_reg rs)))
-    by true e = ap (renumbered (the_order raw)) (sym (pin-bare raw r.wire))
+    by true e = ap (renumbered (place_in (the_order raw))) (sym (pin-bare raw r.wire))
     by false e = e
 
 -- ---- written lists
@@ -329,8 +329,8 @@ module _ (c : Circuit) (raw : RawNetlist) (is : IsRawOf c raw) (good : IsCircuit
         data-bare raw (reg_name m) raw.regs
         ∙ (ap (λ rs. data_wire raw (find (targets_word (reg_name m)) rs)) is.regs_are
         ∙ (ap (data_wire raw) (find-written c 0 n m c.registers w (omega arith) at e)
-        ∙ (ap (renumbered (the_order raw)) (same-pin (length c.gates) w (omega arith) there)
-        ∙ (ap (λ o. renumbered o w) order-is
+        ∙ (ap (renumbered (place_in (the_order raw))) (same-pin (length c.gates) w (omega arith) there)
+        ∙ (ap (λ o. renumbered (place_in o) w) order-is
         ∙ same_wire (length c.inputs) (length c.registers) (length c.gates) w there))))
 
     registers-are : map (register_wire raw) (registers raw) ≡ c.registers

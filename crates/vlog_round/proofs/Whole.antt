@@ -1,14 +1,11 @@
 -- What is written for a netlist is read as the same netlist.
 use Rattle.std.proofs.Common.{◌≡◌, ℕ, ◌≤◌, List, length, Ok, sym, ap, ◌∙◌, arith}
-use Rattle.std.specs.List.{range_with_len}
 use Rattle.net_core.specs.declared.gate.Gate as gate
 use Rattle.net_core.specs.Circuits.{Circuit, IsCircuit, HasItsPins}
-use Rattle.net_order.specs.Laws.{AreEarlier}
 use Rattle.vlog_text.specs.declared.token.Token.{Token}
 use Rattle.vlog_text.specs.Emitted.{emitted}
 use Rattle.vlog_text.specs.Grammar.{items_depth}
 use Rattle.vlog_text.specs.Lexing.{tokens}
-use Rattle.vlog_text.specs.Orders.{order_of, reordered}
 use Rattle.vlog_text.specs.PortNames.{HasPortNames}
 use Rattle.vlog_text.specs.Reading.{IsShort, StandsFor}
 use Rattle.vlog_text.specs.Trees.{raw_of}
@@ -18,21 +15,14 @@ use Rattle.vlog_round.proofs.Lines.{all_pieces, text-all}
 use Rattle.vlog_round.proofs.Readable.{can-be-written, all-read}
 use Rattle.vlog_round.proofs.Phrases.{finds_text}
 use Rattle.vlog_round.proofs.Nets.{are-earlier, order-is, net-is}
+use Rattle.vlog_round.proofs.Ordered.{keeps_order, keeps_gates}
 use Rattle.vlog_round.proofs.Rules.{unbroken}
-
--- gates whose pins name earlier gates keep their order
-abbrev pub OrderIsKept : Type 0
-OrderIsKept = (gates : List gate.Gate) → AreEarlier gates → order_of gates ≡ range_with_len 0 (length gates)
-
-abbrev pub GatesAreKept : Type 0
-GatesAreKept = (gates : List gate.Gate) → AreEarlier gates → reordered gates (order_of gates) ≡ gates
 
 shallow : (n : ℕ) → n ≡ 0 → n ≤ 64
 shallow n e = omega arith
 
-pub written_is_read : OrderIsKept → GatesAreKept → (c : Circuit) → IsCircuit c → HasPortNames c → IsShort (emitted c)
-    → StandsFor (emitted c) c
-written_is_read kept stay c good names short =
+pub written_is_read : (c : Circuit) → IsCircuit c → HasPortNames c → IsShort (emitted c) → StandsFor (emitted c) c
+written_is_read c good names short =
     let bytes : List ℕ = emitted c in
     let ts : List Token = placed 0 (all_pieces c) in
     let same : text (all_pieces c) ≡ bytes = text-all c in
@@ -43,8 +33,9 @@ written_is_read kept stay c good names short =
     each_from (λ (g : gate.Gate). HasItsPins g.kind (length g.pins)) c.gates
     (λ n g at. (good.gates_fit n g at).count) in
     let x = finds_text bytes c pins ts there in
-    let order = kept c.gates (are-earlier c (raw_of bytes x.phrase) x.raw_is good names) in
-    let gates = stay c.gates (are-earlier c (raw_of bytes x.phrase) x.raw_is good names) in
+    let earlier = are-earlier c (raw_of bytes x.phrase) x.raw_is good names in
+    let order = keeps_order c.gates earlier in
+    let gates = keeps_gates c.gates earlier in
     record {
       phrase = x.phrase;
       is_read = record {

@@ -12,9 +12,7 @@ ghost use Rattle.vlog_round.specs.NamedPins.{HasShortNames, named_pins};
 /// enough.
 pub fn written_reads_back()
     ensures { (c : Circuit) → IsCircuit c → HasPortNames c → IsShort (emitted c) → StandsFor (emitted c) c }
-{
-    net_order::laws::order_kept();
-}
+{}
 
 /// The text is short enough where the netlist is built, its ports have short names, and it has few gates and registers
 /// and few pins that are written with the name of a port.

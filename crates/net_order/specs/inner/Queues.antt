@@ -8,7 +8,7 @@ use Rattle.net_core.specs.declared.gate.Wire.{Wire}
 use Rattle.net_core.specs.declared.gate.Wire.TheVariants.{Gate}
 use Rattle.net_core.specs.declared.gate as netlist
 use Rattle.net_order.specs.declared.waiting.Waiter.{Waiter}
-use Rattle.net_order.specs.Taking.{is_settled, all_settled}
+use Rattle.vlog_text.specs.Orders.{is_settled, all_settled}
 
 abbrev pub marked : List Bool → ℕ → Bool
 marked bits n = slice_index_or bits n false

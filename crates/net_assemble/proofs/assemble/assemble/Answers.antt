@@ -3,7 +3,7 @@ use Rattle.net_core.specs.declared.gate.Gate as gate
 use Rattle.net_core.specs.Circuits.{Circuit, IsCircuit}
 use Rattle.vlog_text.specs.declared.raw.RawName.{RawName}
 use Rattle.vlog_text.specs.Words.{repeated}
-use Rattle.net_order.specs.Taking.{AllNamed}
+use Rattle.net_order.specs.inner.Named.{AllNamed}
 use Rattle.net_order.proofs.TextGates.{all_named}
 use Rattle.net_assemble.specs.inner.Parts.{ArePlaces}
 use Rattle.net_assemble.proofs.Placed.{order_few, in_order, are_places}

@@ -1,7 +1,7 @@
 use Rattle.std.proofs.Common.{◌≡◌, map, filter, take}
 use Rattle.vlog_text.specs.declared.raw.RawName.{RawName}
 use Rattle.net_order.specs.Names.{kinds_in}
-use Rattle.net_assemble.specs.Parts.{output_at}
+use Rattle.net_assemble.specs.inner.Parts.{output_at}
 use Rattle.net_assemble.proofs.ports.outputs.Given as goal
 
 abbrev pub invariant-loop-name : goal.invariant-loop-name

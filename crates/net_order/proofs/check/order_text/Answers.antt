@@ -3,7 +3,7 @@ use Rattle.std.proofs.lemmas.List.{length-map}
 use Rattle.net_core.specs.declared.gate.Gate as gate
 use Rattle.vlog_text.specs.declared.raw.RawGate.{RawGate}
 use Rattle.vlog_text.specs.Standing.{resolved}
-use Rattle.net_order.specs.Taking.{AllNamed}
+use Rattle.net_order.specs.inner.Named.{AllNamed}
 use Rattle.net_order.specs.Wires.{capped_gate}
 use Rattle.net_order.proofs.TextGates.{all_named, order_is, order_below}
 use Rattle.net_order.proofs.check.order_text.Goals as goal

@@ -1,5 +1,5 @@
 use Rattle.std.proofs.Common.{◌≡◌, take}
-use Rattle.net_order.specs.Moves.{place_from, moved}
+use Rattle.vlog_text.specs.Orders.{place_in, moved}
 use Rattle.std.specs.List.{filter_map}
 use Rattle.std.specs.Option.{option_map}
 use Rattle.std.specs.Prelude.{slice_get}
@@ -7,5 +7,5 @@ use Rattle.net_order.proofs.reorder.reorder.Given as goal
 
 abbrev pub invariant-loop-gate : goal.invariant-loop-gate
 invariant-loop-gate l =
-    l.new ≡ filter_map (λ n. option_map (moved (place_from 0 l.order)) (slice_get l.gates n))
+    l.new ≡ filter_map (λ n. option_map (moved (place_in l.order)) (slice_get l.gates n))
     (take l.gate-index l.order)

@@ -1,25 +1,36 @@
--- Which gate is the first that can be taken.
+-- Which gate is the first that can be taken, and gates whose pins name earlier ones.
 use Rattle.std.proofs.Common.{◌≡◌, ℕ, zero, suc, ◌+◌, ◌<◌, ◌≤◌, inl, inr, Bool, true, false, not, ◌&&◌, cond, List, []}
 use Rattle.std.proofs.Common.{◌∷◌, length, Option, Some, None, refl, sym, ap, ◌∙◌, subst, arith}
 use Rattle.std.specs.Prelude.{slice_get}
+use Rattle.std.proofs.lemmas.Bool.{and_from, and_parts}
 use Rattle.std.proofs.lemmas.Option.{same_Some}
 use Rattle.net_core.specs.declared.gate.Wire.{Wire}
 use Rattle.net_core.specs.declared.gate as netlist
-use Rattle.net_order.specs.Taking.{is_settled, all_settled, can_be_taken, first_from}
-use Rattle.net_order.proofs.Tests.{and_true, and_left, and_right}
+use Rattle.net_core.specs.declared.gate.Wire.TheVariants.{Gate}
+use Rattle.vlog_text.specs.Orders.{is_settled, all_settled, can_be_taken, first_from}
+
+-- each pin that is a gate names an earlier one
+pub record AreEarlier (gates : List netlist.Gate.Gate) : Type 0 where
+  pub each : (n : ℕ) (g : netlist.Gate.Gate) (i m : ℕ) → slice_get gates n ≡ Some g
+      → slice_get g.pins i ≡ Some (Gate m) → m < n
+
+pub some_at : {X : Type 0} (xs : List X) (n : ℕ) → n < length xs → (x : X) × (slice_get xs n ≡ Some x)
+some_at [] n h = absurd (omega arith)
+some_at (x ∷ xs) zero h = (x, refl)
+some_at (x ∷ xs) (suc n) h = some_at xs n (omega arith)
 
 pub each_settled : (taken : ℕ → Bool) (pins : List Wire) (i : ℕ) (w : Wire) → all_settled taken pins ≡ true
     → slice_get pins i ≡ Some w → is_settled taken w ≡ true
 each_settled taken [] i w h e = cc
 each_settled taken (x ∷ xs) zero w h e =
-    let s : x ≡ w = same_Some x w e in subst (λ y. is_settled taken y ≡ true) s (and_left (is_settled taken x) _ h)
-each_settled taken (x ∷ xs) (suc i) w h e = each_settled taken xs i w (and_right (is_settled taken x) _ h) e
+    let s : x ≡ w = same_Some x w e in subst (λ y. is_settled taken y ≡ true) s (and_parts (is_settled taken x) _ h).0
+each_settled taken (x ∷ xs) (suc i) w h e = each_settled taken xs i w (and_parts (is_settled taken x) _ h).1 e
 
 pub settled_all : (taken : ℕ → Bool) (pins : List Wire)
     → ((i : ℕ) (w : Wire) → slice_get pins i ≡ Some w → is_settled taken w ≡ true) → all_settled taken pins ≡ true
 settled_all taken [] h = refl
 settled_all taken (x ∷ xs) h =
-    and_true (is_settled taken x) _ (h zero x refl) (settled_all taken xs (λ i w e. h (suc i) w e))
+    and_from (is_settled taken x) _ (h zero x refl) (settled_all taken xs (λ i w e. h (suc i) w e))
 
 pub none_from : (taken : ℕ → Bool) (n : ℕ) (gates : List netlist.Gate.Gate)
     → ((k : ℕ) (g : netlist.Gate.Gate) → slice_get gates k ≡ Some g → can_be_taken taken (n + k) g.pins ≡ false)
