@@ -31,6 +31,6 @@ pub fn emitted_stands()
 {
     names_are_words();
     pbs_check::laws::within_limits();
-    vlog_round::built_text_is_short();
-    vlog_round::written_reads_back();
+    vlog_write::laws::built_text_is_short();
+    vlog_write::laws::written_reads_back();
 }

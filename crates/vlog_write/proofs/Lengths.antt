@@ -19,10 +19,10 @@ use Rattle.vlog_text.specs.Emitted.{wire_line, gate_line, always_line, numbered,
 use Rattle.vlog_text.specs.Emitted.{output_lines, reg_lines, wire_lines, gate_lines, always_lines, emitted}
 use Rattle.vlog_text.specs.PortNames.{port_names, HasPortNames}
 use Rattle.vlog_text.specs.Reading.{IsShort}
-use Rattle.vlog_round.specs.NamedPins.{output_pin, named_pin, list_named_pins, gate_named_pins, named_pins}
-use Rattle.vlog_round.specs.NamedPins.{HasShortNames}
-use Rattle.vlog_round.proofs.Lists.{Each, each_left, each_right, each_mapped, each_from, each_at}
-use Rattle.vlog_round.proofs.Readable.{found-driven}
+use Rattle.vlog_write.specs.NamedPins.{output_pin, named_pin, list_named_pins, gate_named_pins, named_pins}
+use Rattle.vlog_write.specs.NamedPins.{HasShortNames}
+use Rattle.vlog_write.proofs.Lists.{Each, each_left, each_right, each_mapped, each_from, each_at}
+use Rattle.vlog_write.proofs.Readable.{found-driven}
 
 short_number : (n : ℕ) → n < 10000000 → length (decimal n) ≤ 7
 short_number n h = length-decimal-le 7 n (omega arith) h (omega arith)

@@ -30,18 +30,18 @@ use Rattle.vlog_text.specs.Standing.{is_input, is_output, is_reg, is_clock, is_r
 use Rattle.vlog_text.specs.Standing.{inputs, outputs, registers, number_of, drives, driver, word_wire, pin_wire}
 use Rattle.vlog_text.specs.Standing.{resolved, text_gates, the_order, data_wire, register_wire, output_of, net_of}
 use Rattle.vlog_text.proofs.OrderLemmas.{AreEarlier}
-use Rattle.vlog_round.proofs.Lists.{Each, each-map, each_so, each_at, each_from, each_all, filter_none}
-use Rattle.vlog_round.proofs.Lists.{filter_each, map-filter, map-map, map_same, map_itself, position-map, position_same}
-use Rattle.vlog_round.proofs.Names.{bytes_itself, bytes_apart, reg_once, port_group, groups_apart}
-use Rattle.vlog_round.proofs.Shapes.{word_of, bare_pin, bare_target, bare_gate, bare_reg, Shape, shape, named}
-use Rattle.vlog_round.proofs.Shapes.{wire_names, of_kind, port_decls, inner_decls, all_decls, written_pin}
-use Rattle.vlog_round.proofs.Shapes.{written_gates, written_reg, written_regs, IsRawOf}
-use Rattle.vlog_round.proofs.Readable.{inputs-each}
-use Rattle.vlog_round.proofs.Apart.{Apart, place_word, get-named, gates-apart, inputs-apart, regs-apart}
-use Rattle.vlog_round.proofs.Apart.{output_gate_name}
-use Rattle.vlog_round.proofs.Known.{HasKind, second, names-kind, pairs, both_no, clock-kind, reset-kind, input-kinds}
-use Rattle.vlog_round.proofs.Known.{output-kinds, reg-kind, gate-kind, input-no_clock}
-use Rattle.vlog_round.proofs.Ordered.{same_place, same_wire}
+use Rattle.vlog_write.proofs.Lists.{Each, each-map, each_so, each_at, each_from, each_all, filter_none}
+use Rattle.vlog_write.proofs.Lists.{filter_each, map-filter, map-map, map_same, map_itself, position-map, position_same}
+use Rattle.vlog_write.proofs.WrittenNames.{bytes_itself, bytes_apart, reg_once, port_group, groups_apart}
+use Rattle.vlog_write.proofs.Shapes.{word_of, bare_pin, bare_target, bare_gate, bare_reg, Shape, shape, named}
+use Rattle.vlog_write.proofs.Shapes.{wire_names, of_kind, port_decls, inner_decls, all_decls, written_pin}
+use Rattle.vlog_write.proofs.Shapes.{written_gates, written_reg, written_regs, IsRawOf}
+use Rattle.vlog_write.proofs.Readable.{inputs-each}
+use Rattle.vlog_write.proofs.Apart.{Apart, place_word, get-named, gates-apart, inputs-apart, regs-apart}
+use Rattle.vlog_write.proofs.Apart.{output_gate_name}
+use Rattle.vlog_write.proofs.Known.{HasKind, second, names-kind, pairs, both_no, clock-kind, reset-kind, input-kinds}
+use Rattle.vlog_write.proofs.Known.{output-kinds, reg-kind, gate-kind, input-no_clock}
+use Rattle.vlog_write.proofs.Ordered.{same_place, same_wire}
 
 plain_true : (a b d : Bool) → a ≡ true → b ≡ false → d ≡ false → (a && not (b || d)) ≡ true
 plain_true true false false p q r = refl

@@ -25,14 +25,14 @@ use Rattle.vlog_text.specs.Emitted.{driven, target_text, gate_name, reg_name}
 use Rattle.vlog_text.specs.PortNames.{IsPortName, HasPortNames}
 use Rattle.vlog_text.specs.Words.{target_name, pin_name, gate_targets, reg_targets, operands}
 use Rattle.vlog_text.specs.Standing.{is_input, is_reg, is_clock, is_declared}
-use Rattle.vlog_round.proofs.Lists.{Each, each-append, each_left, each_right, each-map, each_mapped, each_so, each_at}
-use Rattle.vlog_round.proofs.Lists.{each_from, map-map, any-map, any_none}
-use Rattle.vlog_round.proofs.Names.{bytes_itself, apart_back, wire_name, port_group, groups_apart}
-use Rattle.vlog_round.proofs.Shapes.{word_of, bare_pin, bare_gate, bare_reg, Shape, shape, named, wire_names}
-use Rattle.vlog_round.proofs.Shapes.{of_kind, port_decls, inner_decls, all_decls, all_ports, written_pin}
-use Rattle.vlog_round.proofs.Shapes.{written_gates, written_regs, IsRawOf}
-use Rattle.vlog_round.proofs.Readable.{found-driven, inputs-each, outputs-each}
-use Rattle.vlog_round.proofs.Apart.{Differs, Apart, wire_stands, all-apart, get-named}
+use Rattle.vlog_write.proofs.Lists.{Each, each-append, each_left, each_right, each-map, each_mapped, each_so, each_at}
+use Rattle.vlog_write.proofs.Lists.{each_from, map-map, any-map, any_none}
+use Rattle.vlog_write.proofs.WrittenNames.{bytes_itself, apart_back, wire_name, port_group, groups_apart}
+use Rattle.vlog_write.proofs.Shapes.{word_of, bare_pin, bare_gate, bare_reg, Shape, shape, named, wire_names}
+use Rattle.vlog_write.proofs.Shapes.{of_kind, port_decls, inner_decls, all_decls, all_ports, written_pin}
+use Rattle.vlog_write.proofs.Shapes.{written_gates, written_regs, IsRawOf}
+use Rattle.vlog_write.proofs.Readable.{found-driven, inputs-each, outputs-each}
+use Rattle.vlog_write.proofs.Apart.{Differs, Apart, wire_stands, all-apart, get-named}
 
 -- the word is declared once, as this
 pub record HasKind (raw : RawNetlist) (w : List ℕ) (k : DeclKind) : Type 0 where

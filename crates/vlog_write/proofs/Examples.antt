@@ -12,11 +12,11 @@ use Rattle.net_core.specs.Circuits.{Circuit, circuit_of, IsThere, FitsAfter, IsC
 use Rattle.vlog_text.specs.Emitted.{emitted}
 use Rattle.vlog_text.specs.PortNames.{IsPortName, port_names, HasPortNames}
 use Rattle.vlog_text.specs.Reading.{StandsFor}
-use Rattle.vlog_round.specs.NamedPins.{named_pins, HasShortNames}
-use Rattle.vlog_round.proofs.Lengths.{built_is_short}
-use Rattle.vlog_round.proofs.Lists.{each_at}
-use Rattle.vlog_round.proofs.Names.{not_same}
-use Rattle.vlog_round.proofs.Whole.{OrderIsKept, GatesAreKept, written_is_read}
+use Rattle.vlog_write.specs.NamedPins.{named_pins, HasShortNames}
+use Rattle.vlog_write.proofs.Lengths.{built_is_short}
+use Rattle.vlog_write.proofs.Lists.{each_at}
+use Rattle.vlog_write.proofs.WrittenNames.{not_same}
+use Rattle.vlog_write.proofs.Whole.{written_is_read}
 
 -- a register that takes the input or itself, and an output that shows what it takes
 abbrev small : Circuit
@@ -113,7 +113,7 @@ small_short = record {
   each = λ n w e. each_at (λ w. length w ≤ 68) (port_names small) n w (omega arith, (omega arith, tt)) e;
 }
 
-small_stands : OrderIsKept → GatesAreKept → StandsFor (emitted small) small
-small_stands kept stay =
-    written_is_read kept stay small small_is small_names
+small_stands : StandsFor (emitted small) small
+small_stands =
+    written_is_read small small_is small_names
     (built_is_short small small_is small_built small_names small_short (omega arith) (omega arith) (omega arith))

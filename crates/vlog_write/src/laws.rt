@@ -1,12 +1,11 @@
 //! The laws that what is written for a netlist reads back, and that it is short where the netlist is small.
-#![tactic(auto)]
 
 ghost use Rattle.std.specs.Prelude.{◌≤◌, length};
 ghost use Rattle.net_core.specs.Circuits.{Circuit, IsBuilt, IsCircuit};
 ghost use Rattle.vlog_text.specs.Emitted.{emitted};
 ghost use Rattle.vlog_text.specs.PortNames.{HasPortNames};
 ghost use Rattle.vlog_text.specs.Reading.{IsShort, StandsFor};
-ghost use Rattle.vlog_round.specs.NamedPins.{HasShortNames, named_pins};
+ghost use Rattle.vlog_write.specs.NamedPins.{HasShortNames, named_pins};
 
 /// What is written for a netlist whose ports have such names is read as the same netlist, where the text is short
 /// enough.

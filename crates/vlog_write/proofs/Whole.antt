@@ -9,14 +9,14 @@ use Rattle.vlog_text.specs.Lexing.{tokens}
 use Rattle.vlog_text.specs.PortNames.{HasPortNames}
 use Rattle.vlog_text.specs.Reading.{IsShort, StandsFor}
 use Rattle.vlog_text.specs.Trees.{raw_of}
-use Rattle.vlog_round.proofs.Lists.{Each, each_from}
-use Rattle.vlog_round.proofs.Pieces.{text, placed, lex-text, Stands, stands}
-use Rattle.vlog_round.proofs.Lines.{all_pieces, text-all}
-use Rattle.vlog_round.proofs.Readable.{can-be-written, all-read}
-use Rattle.vlog_round.proofs.Phrases.{finds_text}
-use Rattle.vlog_round.proofs.Nets.{are-earlier, order-is, net-is}
-use Rattle.vlog_round.proofs.Ordered.{keeps_order, keeps_gates}
-use Rattle.vlog_round.proofs.Rules.{unbroken}
+use Rattle.vlog_write.proofs.Lists.{Each, each_from}
+use Rattle.vlog_write.proofs.Pieces.{text, placed, lex-text, Stands, stands}
+use Rattle.vlog_write.proofs.LinePieces.{all_pieces, text-all}
+use Rattle.vlog_write.proofs.Readable.{can-be-written, all-read}
+use Rattle.vlog_write.proofs.Phrases.{finds_text}
+use Rattle.vlog_write.proofs.Nets.{are-earlier, order-is, net-is}
+use Rattle.vlog_write.proofs.Ordered.{keeps_order, keeps_gates}
+use Rattle.vlog_write.proofs.Rules.{unbroken}
 
 shallow : (n : ℕ) → n ≡ 0 → n ≤ 64
 shallow n e = omega arith

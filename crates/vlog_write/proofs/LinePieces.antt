@@ -15,8 +15,8 @@ use Rattle.vlog_text.specs.Emitted.{driven, gate_name, reg_name, operand_text, k
 use Rattle.vlog_text.specs.Emitted.{gate_line, always_line, numbered, reg_lines, wire_lines, gate_lines}
 use Rattle.vlog_text.specs.Emitted.{always_lines, emitted}
 use Rattle.vlog_text.specs.PortNames.{port_names}
-use Rattle.vlog_round.proofs.Pieces.{Piece, Blank, Sign, Word, text}
-use Rattle.vlog_round.proofs.Shapes.{Shape, named, or_wire, wire_names, of_kind, port_decls, inner_decls}
+use Rattle.vlog_write.proofs.Pieces.{Piece, Blank, Sign, Word, text}
+use Rattle.vlog_write.proofs.Shapes.{Shape, named, or_wire, wire_names, of_kind, port_decls, inner_decls}
 
 -- ---- pieces, and those behind them
 

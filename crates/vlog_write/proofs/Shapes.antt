@@ -20,7 +20,7 @@ use Rattle.vlog_text.specs.declared.raw.Target.{Target}
 use Rattle.vlog_text.specs.declared.raw.Target.TheVariants as target
 use Rattle.vlog_text.specs.Emitted.{driven, gate_name, reg_name, operand_text}
 use Rattle.vlog_text.specs.PortNames.{port_names}
-use Rattle.vlog_round.proofs.Names.{wire_name}
+use Rattle.vlog_write.proofs.WrittenNames.{wire_name}
 
 -- ---- without spans
 

@@ -27,14 +27,14 @@ use Rattle.vlog_text.specs.Grammar.{is_single, ItemPhrase, Declare, ManyGate, Si
 use Rattle.vlog_text.specs.Grammar.{MoreItems, TextPhrase, names_tokens, operands_tokens, item_tokens}
 use Rattle.vlog_text.specs.Grammar.{items_tokens, text_tokens, items_depth}
 use Rattle.vlog_text.specs.Trees.{word_at, name_of, operand_of, names_of, operands_of, found_in, raw_of}
-use Rattle.vlog_round.proofs.Lists.{Each}
-use Rattle.vlog_round.proofs.Pieces.{Piece, Sign, Word, Stands}
-use Rattle.vlog_round.proofs.Shapes.{plain, word_of, bare_pin, bare_gate, bare_reg, Shape, shape, written_pin}
-use Rattle.vlog_round.proofs.Shapes.{written_gate, written_gates, written_reg, written_regs}
-use Rattle.vlog_round.proofs.Shapes.{all_decls, IsRawOf}
-use Rattle.vlog_round.proofs.Lines.{listed_pieces, end_pieces, decls_pieces, operand_piece, pins_pieces, gate_pieces}
-use Rattle.vlog_round.proofs.Lines.{gates_pieces, always_pieces, regs_pieces, last_pieces, later_decls, items_pieces}
-use Rattle.vlog_round.proofs.Lines.{clock_pieces, all_pieces}
+use Rattle.vlog_write.proofs.Lists.{Each}
+use Rattle.vlog_write.proofs.Pieces.{Piece, Sign, Word, Stands}
+use Rattle.vlog_write.proofs.Shapes.{plain, word_of, bare_pin, bare_gate, bare_reg, Shape, shape, written_pin}
+use Rattle.vlog_write.proofs.Shapes.{written_gate, written_gates, written_reg, written_regs}
+use Rattle.vlog_write.proofs.Shapes.{all_decls, IsRawOf}
+use Rattle.vlog_write.proofs.LinePieces.{listed_pieces, end_pieces, decls_pieces, operand_piece, pins_pieces, gate_pieces}
+use Rattle.vlog_write.proofs.LinePieces.{gates_pieces, always_pieces, regs_pieces, last_pieces, later_decls, items_pieces}
+use Rattle.vlog_write.proofs.LinePieces.{clock_pieces, all_pieces}
 
 abbrev named_at : Span → NamePhrase
 named_at at = record { clock = false; at = at }

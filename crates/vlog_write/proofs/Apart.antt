@@ -11,11 +11,11 @@ use Rattle.net_core.specs.declared.netlist.Output.{Output}
 use Rattle.net_core.specs.Circuits.{Circuit, IsCircuit, output_names}
 use Rattle.vlog_text.specs.Emitted.{driven, target_text, gate_name, reg_name}
 use Rattle.vlog_text.specs.PortNames.{IsPortName, port_names, HasPortNames}
-use Rattle.vlog_round.proofs.Lists.{get_left, Each, each-append, each_from, each_at, each_so}
-use Rattle.vlog_round.proofs.Names.{bytes_itself, bytes_apart, apart_back, reg_once}
-use Rattle.vlog_round.proofs.Names.{wire_name, wire_once, group, port_group, groups_apart}
-use Rattle.vlog_round.proofs.Shapes.{named, or_wire, wire_names, all_ports}
-use Rattle.vlog_round.proofs.Readable.{found-driven, ports-each, outputs-each}
+use Rattle.vlog_write.proofs.Lists.{get_left, Each, each-append, each_from, each_at, each_so}
+use Rattle.vlog_write.proofs.WrittenNames.{bytes_itself, bytes_apart, apart_back, reg_once}
+use Rattle.vlog_write.proofs.WrittenNames.{wire_name, wire_once, group, port_group, groups_apart}
+use Rattle.vlog_write.proofs.Shapes.{named, or_wire, wire_names, all_ports}
+use Rattle.vlog_write.proofs.Readable.{found-driven, ports-each, outputs-each}
 
 -- ---- lists of different names
 

@@ -17,14 +17,14 @@ use Rattle.vlog_text.specs.declared.raw.DeclKind.TheVariants as decl
 use Rattle.vlog_text.specs.declared.token.TokenKind.TheVariants as kind
 use Rattle.vlog_text.specs.Emitted.{driven, target_text, gate_name, reg_name, operand_text, kind_text}
 use Rattle.vlog_text.specs.PortNames.{IsPortName, port_names, HasPortNames}
-use Rattle.vlog_round.proofs.Lists.{Each, each-append, each_left, each_right, each-map, each_mapped, each_from, each_at}
-use Rattle.vlog_round.proofs.Lists.{each_so}
-use Rattle.vlog_round.proofs.Names.{IsFew, reg_word, wire_word, port_word}
-use Rattle.vlog_round.proofs.Pieces.{Piece, Sign, IsWord, IsParted, IsReadable, Word}
-use Rattle.vlog_round.proofs.Shapes.{Shape, named, or_wire, wire_names, of_kind, port_decls, inner_decls}
-use Rattle.vlog_round.proofs.Lines.{listed_pieces, decl_word, end_pieces, decls_pieces, operand_piece, pins_pieces}
-use Rattle.vlog_round.proofs.Lines.{gates_pieces, regs_pieces, last_pieces, later_decls}
-use Rattle.vlog_round.proofs.Lines.{items_pieces, clock_pieces, all_pieces}
+use Rattle.vlog_write.proofs.Lists.{Each, each-append, each_left, each_right, each-map, each_mapped, each_from, each_at}
+use Rattle.vlog_write.proofs.Lists.{each_so}
+use Rattle.vlog_write.proofs.WrittenNames.{IsFew, reg_word, wire_word, port_word}
+use Rattle.vlog_write.proofs.Pieces.{Piece, Sign, IsWord, IsParted, IsReadable, Word}
+use Rattle.vlog_write.proofs.Shapes.{Shape, named, or_wire, wire_names, of_kind, port_decls, inner_decls}
+use Rattle.vlog_write.proofs.LinePieces.{listed_pieces, decl_word, end_pieces, decls_pieces, operand_piece, pins_pieces}
+use Rattle.vlog_write.proofs.LinePieces.{gates_pieces, regs_pieces, last_pieces, later_decls}
+use Rattle.vlog_write.proofs.LinePieces.{items_pieces, clock_pieces, all_pieces}
 
 -- a name that can be written
 abbrev pub IsName : List ℕ → Type 0

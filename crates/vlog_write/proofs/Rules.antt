@@ -21,19 +21,19 @@ use Rattle.vlog_text.specs.Words.{has_word, is_named, repeated, decl_names, gate
 use Rattle.vlog_text.specs.Standing.{is_input, is_output, is_reg, is_port, is_clock, is_reset, is_declared, the_order}
 use Rattle.vlog_text.specs.Refusing.{declared, rule_4, rule_5, left_out, rule_6, rule_7, at_place, rule_8, refusals}
 use Rattle.vlog_text.specs.Refusing.{earliest, first_broken}
-use Rattle.vlog_round.proofs.Lists.{Each, each-append, each_left, each_right, each-map, each_mapped, each_so, each_both}
-use Rattle.vlog_round.proofs.Lists.{each_from, each_all, filter_none, map-filter, length-filter, map-map, any-map}
-use Rattle.vlog_round.proofs.Lists.{any_at, any_left, any_right}
-use Rattle.vlog_round.proofs.Names.{bytes_itself, apart_back, wire_name}
-use Rattle.vlog_round.proofs.Shapes.{word_of, bare_gate, Shape, shape, named, wire_names, of_kind, port_decls}
-use Rattle.vlog_round.proofs.Shapes.{inner_decls, all_decls, all_ports, written_gates, IsRawOf}
-use Rattle.vlog_round.proofs.Apart.{Differs, Apart, each-named, get-named, each-wires, gates-apart, regs-apart}
-use Rattle.vlog_round.proofs.Apart.{ports-apart}
-use Rattle.vlog_round.proofs.Apart.{all-apart, output_gate_name}
-use Rattle.vlog_round.proofs.Known.{HasKind, IsKnown, IsDriven, IsRead, second, names-decls, clock-kind, reset-kind}
-use Rattle.vlog_round.proofs.Known.{input-kinds, output-kinds, reg-kinds, gate-kind, gate-targets, reg-targets}
-use Rattle.vlog_round.proofs.Known.{operands-read}
-use Rattle.vlog_round.proofs.Ordered.{none_left_out}
+use Rattle.vlog_write.proofs.Lists.{Each, each-append, each_left, each_right, each-map, each_mapped, each_so, each_both}
+use Rattle.vlog_write.proofs.Lists.{each_from, each_all, filter_none, map-filter, length-filter, map-map, any-map}
+use Rattle.vlog_write.proofs.Lists.{any_at, any_left, any_right}
+use Rattle.vlog_write.proofs.WrittenNames.{bytes_itself, apart_back, wire_name}
+use Rattle.vlog_write.proofs.Shapes.{word_of, bare_gate, Shape, shape, named, wire_names, of_kind, port_decls}
+use Rattle.vlog_write.proofs.Shapes.{inner_decls, all_decls, all_ports, written_gates, IsRawOf}
+use Rattle.vlog_write.proofs.Apart.{Differs, Apart, each-named, get-named, each-wires, gates-apart, regs-apart}
+use Rattle.vlog_write.proofs.Apart.{ports-apart}
+use Rattle.vlog_write.proofs.Apart.{all-apart, output_gate_name}
+use Rattle.vlog_write.proofs.Known.{HasKind, IsKnown, IsDriven, IsRead, second, names-decls, clock-kind, reset-kind}
+use Rattle.vlog_write.proofs.Known.{input-kinds, output-kinds, reg-kinds, gate-kind, gate-targets, reg-targets}
+use Rattle.vlog_write.proofs.Known.{operands-read}
+use Rattle.vlog_write.proofs.Ordered.{none_left_out}
 
 -- ---- lists
 

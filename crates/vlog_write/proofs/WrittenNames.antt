@@ -11,8 +11,8 @@ use Rattle.vlog_text.specs.declared.token.TokenKind.TheVariants as kind
 use Rattle.vlog_text.specs.Emitted.{reg_name}
 use Rattle.vlog_text.specs.Lexing.{is_letter, is_name_byte, words, kind_in}
 use Rattle.vlog_text.specs.PortNames.{begins_with, IsPortName}
-use Rattle.vlog_round.proofs.Lists.{}
-use Rattle.vlog_round.proofs.Pieces.{IsWord}
+use Rattle.vlog_write.proofs.Lists.{}
+use Rattle.vlog_write.proofs.Pieces.{IsWord}
 
 -- ---- equal bytes
 
