@@ -198,9 +198,6 @@ flat-listed (x ∷ xs) ys =
     ap (λ l. listed x ++ l) (flat-listed xs ys)
     ∙ sym (append_assoc (listed x) (flat_map listed xs) (flat_map listed ys))
 
-four : (a b d e : List ℕ) → (a ++ b) ++ (d ++ e) ≡ a ++ (b ++ (d ++ e))
-four a b d e = append_assoc a b (d ++ e)
-
 text-items : (c : Circuit) (z : List Piece) → text (items_pieces c z) ≡ codes "input rst;\n"
     ++ ((flat_map (declared (codes "input")) c.inputs ++ flat_map (declared (codes "output")) (output_names c))
     ++ (reg_lines c ++ wire_lines c)) ++ (gate_lines c ++ (always_lines c ++ text z))
