@@ -6,8 +6,7 @@ ghost use Rattle.pbs_cli.specs.Words.{Command, Compile, Run};
 
 use net_eval::laws::one_assignment;
 use pbs_engine::laws::{one_check, one_outcome};
-use vlog_read::laws::stands_for_circuit;
-use vlog_read::one_answer as one_netlist;
+use vlog_read::laws::{one_answer as one_netlist, stands_for_circuit};
 
 /// A command other than `compile` has at most one answer over files that are told.
 pub fn one_answer()

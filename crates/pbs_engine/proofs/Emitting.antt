@@ -4,7 +4,7 @@ use Rattle.net_core.specs.Circuits.{Circuit, IsCircuit, IsBuilt}
 use Rattle.vlog_text.specs.Emitted.{emitted}
 use Rattle.vlog_text.specs.PortNames.{HasPortNames}
 use Rattle.vlog_text.specs.Reading.{IsShort, StandsFor}
-use Rattle.vlog_round.specs.NamedPins.{HasShortNames, named_pins}
+use Rattle.vlog_write.specs.NamedPins.{HasShortNames, named_pins}
 use Rattle.pbs_controller.specs.Controllers.{IsWritable}
 use Rattle.pbs_controller.specs.Ports.{ports_of}
 use Rattle.pbs_engine.proofs.Pins.{pins_are}

@@ -10,7 +10,7 @@ use Rattle.net_core.specs.declared.gate.Gate as gate
 use Rattle.net_core.specs.declared.netlist.Output.{Output}
 use Rattle.net_core.specs.Circuits.{Circuit}
 use Rattle.net_core.specs.Building.{input_pin, input_pins, gate_input_pins}
-use Rattle.vlog_round.specs.NamedPins.{output_pin, named_pin, list_named_pins, gate_named_pins, named_pins}
+use Rattle.vlog_write.specs.NamedPins.{output_pin, named_pin, list_named_pins, gate_named_pins, named_pins}
 use Rattle.pbs_controller.specs.Outputs.{ReadsNone, AreUnread}
 
 none_driven : (outputs : List Output) (g : ℕ)

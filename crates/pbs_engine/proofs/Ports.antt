@@ -9,7 +9,7 @@ use Rattle.pbs_text.specs.Lexing.{is_word_byte}
 use Rattle.pbs_controller.specs.Ports.{ports_of}
 use Rattle.vlog_text.specs.Lexing.{is_name_byte}
 use Rattle.vlog_text.specs.PortNames.{IsPortName, port_names, HasPortNames}
-use Rattle.vlog_round.specs.NamedPins.{HasShortNames}
+use Rattle.vlog_write.specs.NamedPins.{HasShortNames}
 use Rattle.pbs_engine.specs.inner.NameWords.{IsWord, AreWords}
 use Rattle.pbs_engine.proofs.Lists.{get-append, get-map, all_so}
 

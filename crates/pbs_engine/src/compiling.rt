@@ -8,7 +8,8 @@ use crate::laws::emitted_stands;
 use net_core::Netlist;
 use pbs_check::laws::within_limits;
 use std::alloc::Global;
-use vlog_read::{VlogFail, one_answer, read_netlist};
+use vlog_read::laws::one_answer;
+use vlog_read::{VlogFail, read_netlist};
 use vlog_write::write_netlist;
 
 /// Appends the Verilog of the specification: docs/VERILOG.md. `Refused` comes by the rules of `check`, or by rule 17

@@ -17,7 +17,7 @@ ghost use Rattle.pbs_engine.specs.inner.NameWords.{HasWords};
 
 use pbs_check::laws::{declared_once, one_refusal, within_limits};
 use pbs_read::one_answer;
-use vlog_round::{built_text_is_short, written_reads_back};
+use vlog_write::laws::{built_text_is_short, written_reads_back};
 
 /// A text is accepted as at most one specification or refused in at most one way, and not both.
 pub fn one_check()

@@ -12,7 +12,8 @@ ghost use Rattle.pbs_engine.specs.Outcomes.{netlist_task};
 use net_trace::{RunFail, simulate};
 use pbs_io::{Shelf, Sink};
 use std::alloc::Global;
-use vlog_read::{VlogFail, one_answer, read_netlist};
+use vlog_read::laws::one_answer;
+use vlog_read::{VlogFail, read_netlist};
 
 /// Reads the netlist and writes its report on the named trace, which is opened in slot 1: each row is written as it
 /// comes, and the line of the refusal in which a trace may end isn't written. `Refused` comes by the rules of netlists,

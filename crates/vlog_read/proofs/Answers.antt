@@ -10,10 +10,9 @@ use Rattle.vlog_text.specs.Refusing.{first_broken}
 use Rattle.vlog_text.specs.Standing.{net_of}
 use Rattle.vlog_text.specs.Trees.{raw_of}
 use Rattle.vlog_parse.specs.Parsed.{ByLength, ByToken, ByGrammar, IsParsed, IsUnreadable}
-use Rattle.net_order.specs.declared.fail.NetFail.{NetFail}
-use Rattle.net_order.specs.declared.fail.NetFail.TheVariants as fails
-use Rattle.net_assemble.specs.Ordered.{Orders}
-use Rattle.vlog_read.specs.declared.fail.VlogFail.TheVariants as answers
+use Rattle.vlog_read.specs.inner.Assembled.{Assembles}
+use Rattle.vlog_read.specs.declared.fail.VlogFail.{VlogFail}
+use Rattle.vlog_read.specs.declared.fail.VlogFail.TheVariants as fail
 use Rattle.vlog_read.specs.Read.{Reads}
 
 -- one way of parsing
@@ -73,16 +72,14 @@ apart bytes a r once s b = never_both bytes a r once s (refusals_of bytes r b)
 
 -- ---- what was parsed is put together
 
-pub assembled : (bytes : List ℕ) (raw : RawNetlist) (net : Circuit) → IsParsed bytes raw → Orders raw (Ok net)
-    → Reads bytes (Ok net)
-assembled bytes raw net parsed orders = record {
+pub assembled : (bytes : List ℕ) (raw : RawNetlist) (answer : Result Circuit VlogFail) → IsParsed bytes raw
+    → Assembles raw answer → Reads bytes answer
+assembled bytes raw (Ok net) parsed is = record {
   phrase = parsed.phrase;
   is_read = parsed.is_read;
-  unbroken = subst (λ x. first_broken x ≡ None) parsed.raw_is orders.0;
-  net_is = orders.1 ∙ ap net_of parsed.raw_is;
+  unbroken = subst (λ x. first_broken x ≡ None) parsed.raw_is is.0;
+  net_is = is.1 ∙ ap net_of parsed.raw_is;
 }
-
-pub refused : (bytes : List ℕ) (raw : RawNetlist) (r : Refusal) → IsParsed bytes raw
-    → Orders raw (Err (fails.Refused r)) → Reads bytes (Err (answers.Refused r))
-refused bytes raw r parsed orders =
-    reading.ByNames parsed.phrase parsed.is_read r (subst (λ x. first_broken x ≡ Some r) parsed.raw_is orders)
+assembled bytes raw (Err (fail.Refused r)) parsed is =
+    reading.ByNames parsed.phrase parsed.is_read r (subst (λ x. first_broken x ≡ Some r) parsed.raw_is is)
+assembled bytes raw (Err fail.Memory) parsed is = tt

@@ -1,1 +1,21 @@
-pub mod Answers
+mod WaitLists
+mod Tests
+mod Steps
+mod Waking
+mod Ordering
+mod Placing
+mod Earliest
+mod Marking
+mod LeftOut
+mod TextGates
+mod NameLists
+mod Unbroken
+mod Wired
+mod Counts
+mod Circuit
+mod Picking
+mod Different
+mod Capping
+mod Placed
+mod Parts
+mod Answers

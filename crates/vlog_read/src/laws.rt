@@ -4,7 +4,6 @@ ghost use Rattle.pbs_base.specs.declared.refusal.Refusal.{Refusal};
 ghost use Rattle.net_core.specs.Circuits.{Circuit, IsCircuit};
 ghost use Rattle.vlog_text.specs.Reading.{IsRefusedBy, StandsFor};
 
-use net_order::laws::unbroken_is_circuit;
 use vlog_parse::{one_parse, read_is_raw};
 
 /// A text stands for one netlist, or is refused in one way, and not both.
@@ -21,5 +20,4 @@ pub fn stands_for_circuit()
     ensures { (bytes : List ℕ) (net : Circuit) → StandsFor bytes net → IsCircuit net }
 {
     read_is_raw();
-    unbroken_is_circuit();
 }

@@ -1,5 +1,5 @@
 -- The text that is written for a netlist. Each line ends with a newline.
-use Rattle.std.specs.Prelude.{ℕ, ◌+◌, nat_eq, true, false, List, [], ◌∷◌, ◌++◌, map, codes, decimal, Option, Some, None}
+use Rattle.std.specs.Prelude.{ℕ, ◌+◌, nat_eq, true, false, List, [], ◌∷◌, ◌++◌, codes, decimal, Option, Some, None}
 use Rattle.std.specs.Prelude.{slice_index_or}
 use Rattle.std.specs.List.{find, flat_map}
 use Rattle.net_core.specs.declared.gate.Wire.{Wire}

@@ -1,4 +1,5 @@
--- The order of gates: each next gate is the first in text order, among those not yet taken, whose pins are settled.
+-- The order of gates: of the gates not yet taken, in the order of the text, the first whose pins are all settled is
+-- taken next.
 use Rattle.std.specs.Prelude.{ℕ, zero, suc, Bool, true, not, ◌&&◌, nat_eq, List, [], ◌∷◌, ◌++◌, map, length, Option}
 use Rattle.std.specs.Prelude.{Some, None, option_map, if◌then◌else◌, slice_get, unwrap_or}
 use Rattle.std.specs.List.{list_any, filter_map, position_from}
@@ -10,20 +11,20 @@ abbrev pub is_among : List ℕ → ℕ → Bool
 is_among taken n = list_any (nat_eq n) taken
 
 -- the wire is a constant, the reset, an input, a register or a taken gate
-abbrev pub is_settled : List ℕ → Wire → Bool
-is_settled taken (wire.Gate n) = is_among taken n
+abbrev pub is_settled : (ℕ → Bool) → Wire → Bool
+is_settled taken (wire.Gate n) = taken n
 is_settled taken _ = true
 
-abbrev pub all_settled : List ℕ → List Wire → Bool
+abbrev pub all_settled : (ℕ → Bool) → List Wire → Bool
 all_settled taken [] = true
 all_settled taken (w ∷ ws) = is_settled taken w && all_settled taken ws
 
 -- gate n, with these pins, can be taken next
-abbrev pub can_be_taken : List ℕ → ℕ → List Wire → Bool
-can_be_taken taken n pins = not (is_among taken n) && all_settled taken pins
+abbrev pub can_be_taken : (ℕ → Bool) → ℕ → List Wire → Bool
+can_be_taken taken n pins = not (taken n) && all_settled taken pins
 
 -- the first gate that can be taken, of those from number n on
-abbrev pub first_from : List ℕ → ℕ → List gate.Gate → Option ℕ
+abbrev pub first_from : (ℕ → Bool) → ℕ → List gate.Gate → Option ℕ
 first_from taken n [] = None
 first_from taken n (g ∷ gs) = if can_be_taken taken n g.pins then Some n else first_from taken (suc n) gs
 
@@ -35,7 +36,7 @@ then_on (Some n) taken more = more n
 abbrev pub order_from : List gate.Gate → ℕ → List ℕ → List ℕ
 order_from gates zero taken = taken
 order_from gates (suc left) taken =
-    then_on (first_from taken zero gates) taken (λ n. order_from gates left (taken ++ n ∷ []))
+    then_on (first_from (is_among taken) zero gates) taken (λ n. order_from gates left (taken ++ n ∷ []))
 
 -- the numbers of the gates that are ever taken, in order
 abbrev pub order_of : List gate.Gate → List ℕ
@@ -47,13 +48,14 @@ order_of gates = order_from gates (length gates) []
 abbrev pub place_in : List ℕ → ℕ → ℕ
 place_in order n = unwrap_or (position_from (nat_eq n) 0 order) 0
 
-abbrev pub renumbered : List ℕ → Wire → Wire
-renumbered order (wire.Gate n) = wire.Gate (place_in order n)
-renumbered order w = w
+-- the wire, a gate by its place
+abbrev pub renumbered : (ℕ → ℕ) → Wire → Wire
+renumbered place (wire.Gate n) = wire.Gate (place n)
+renumbered place w = w
 
-abbrev pub moved : List ℕ → gate.Gate → gate.Gate
-moved order g = record { kind = g.kind; pins = map (renumbered order) g.pins }
+abbrev pub moved : (ℕ → ℕ) → gate.Gate → gate.Gate
+moved place g = record { kind = g.kind; pins = map (renumbered place) g.pins }
 
--- the gates of the order, each pin with its gate's new number
+-- the gates of the order, each pin with its gate's place in it
 abbrev pub reordered : List gate.Gate → List ℕ → List gate.Gate
-reordered gates order = filter_map (λ n. option_map (moved order) (slice_get gates n)) order
+reordered gates order = filter_map (λ n. option_map (moved (place_in order)) (slice_get gates n)) order

@@ -1,5 +1,5 @@
 -- The names of ports with which a netlist is written such that its text is read as the same netlist.
-use Rattle.std.specs.Prelude.{◌≡◌, ℕ, ◌≤◌, Bool, ◌&&◌, ◌||◌, IsTrue, List, ◌++◌, length, take, codes, slice_get, Some}
+use Rattle.std.specs.Prelude.{◌≡◌, ℕ, ◌≤◌, Bool, ◌||◌, IsTrue, List, ◌++◌, length, take, codes, slice_get, Some}
 use Rattle.std.specs.List.{list_all}
 use Rattle.std.specs.Str.{bytes_eq}
 use Rattle.net_core.specs.Circuits.{Circuit, output_names}

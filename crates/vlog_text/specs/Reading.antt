@@ -1,5 +1,5 @@
 -- What netlist a text stands for, and the refusals by rules 1 to 8.
-use Rattle.std.specs.Prelude.{ℕ, ◌≤◌, ◌<◌, ◌≡◌, List, [], ◌∷◌, ◌++◌, length, Some, None, Result, Ok, Err}
+use Rattle.std.specs.Prelude.{ℕ, ◌≤◌, ◌<◌, ◌≡◌, List, [], ◌∷◌, ◌++◌, length, Some, None, Ok, Err}
 use Rattle.pbs_base.specs.declared.refusal.Span.{Span}
 use Rattle.pbs_base.specs.declared.refusal.Refusal.{Refusal}
 use Rattle.net_core.specs.Circuits.{Circuit}
@@ -43,8 +43,3 @@ pub data IsRefusedBy (bytes : List ℕ) : Refusal → Type 0 where
       → LeavesGrammar (length bytes) found at → IsRefusedBy bytes (refusal 3 at)
   ByNames : (p : TextPhrase) → IsRead bytes p → (r : Refusal) → first_broken (raw_of bytes p) ≡ Some r
       → IsRefusedBy bytes r
-
--- what the definition says of a text
-abbrev pub Answers : List ℕ → Result Circuit Refusal → Type 0
-Answers bytes (Ok net) = StandsFor bytes net
-Answers bytes (Err r) = IsRefusedBy bytes r

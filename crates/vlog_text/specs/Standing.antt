@@ -95,7 +95,7 @@ the_order raw = order_of (text_gates raw)
 
 -- what a register takes
 abbrev pub data_wire : RawNetlist → Option RawReg → Wire
-data_wire raw (Some r) = renumbered (the_order raw) (pin_wire raw r.wire)
+data_wire raw (Some r) = renumbered (place_in (the_order raw)) (pin_wire raw r.wire)
 data_wire raw None = wire.Const false
 
 abbrev pub register_wire : RawNetlist → RawName → Wire

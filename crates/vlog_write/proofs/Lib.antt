@@ -1,1 +1,16 @@
+mod Putting
 mod Pieces
+mod Lists
+mod WrittenNames
+mod Shapes
+mod LinePieces
+mod Readable
+mod Phrases
+mod Apart
+mod Known
+mod Ordered
+mod Nets
+mod Rules
+mod Whole
+mod Lengths
+mod Examples

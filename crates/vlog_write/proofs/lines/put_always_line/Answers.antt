@@ -1,6 +1,6 @@
 use Rattle.std.proofs.Common.{◌++◌, codes}
 use Rattle.vlog_text.specs.Emitted.{operand_text, reg_name}
-use Rattle.vlog_write.proofs.Pieces.{more, then}
+use Rattle.vlog_write.proofs.Putting.{more, then}
 use Rattle.vlog_write.proofs.lines.put_always_line.Goals as goal
 
 pub returns : goal.returns

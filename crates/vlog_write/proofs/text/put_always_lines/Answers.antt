@@ -1,7 +1,7 @@
 use Rattle.std.proofs.Common.{◌∙◌, false, arith}
 use Rattle.net_core.specs.declared.gate.Wire.TheVariants.{Const}
 use Rattle.vlog_text.specs.Emitted.{always_line}
-use Rattle.vlog_write.proofs.Pieces.{numbered_more}
+use Rattle.vlog_write.proofs.Putting.{numbered_more}
 use Rattle.vlog_write.proofs.text.put_always_lines.Goals as goal
 
 pub loop-reg-preserved : goal.loop-reg-preserved

@@ -1,6 +1,6 @@
 use Rattle.std.proofs.Common.{◌∙◌, ap, codes, Some}
 use Rattle.vlog_text.specs.Emitted.{declared}
-use Rattle.vlog_write.proofs.Pieces.{item_more}
+use Rattle.vlog_write.proofs.Putting.{item_more}
 use Rattle.vlog_write.proofs.text.put_declared_inputs.Goals as goal
 
 pub loop-n-preserved : goal.loop-n-preserved

@@ -2,7 +2,7 @@ use Rattle.std.proofs.Common.{◌≡◌, ◌++◌, codes, subst}
 use Rattle.std.specs.Prelude.{OnOk}
 use Rattle.std.specs.List.{flat_map}
 use Rattle.vlog_text.specs.Emitted.{declared}
-use Rattle.vlog_write.proofs.Pieces.{then}
+use Rattle.vlog_write.proofs.Putting.{then}
 use Rattle.vlog_write.proofs.text.put_input_lines.Goals as goal
 
 pub returns : goal.returns

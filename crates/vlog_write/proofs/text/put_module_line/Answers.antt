@@ -3,7 +3,7 @@ use Rattle.std.specs.List.{flat_map}
 use Rattle.net_core.specs.declared.netlist.Output.{Output}
 use Rattle.vlog_text.specs.Emitted.{listed}
 use Rattle.net_core.specs.Circuits.{output_names}
-use Rattle.vlog_write.proofs.Pieces.{more, then}
+use Rattle.vlog_write.proofs.Putting.{more, then}
 use Rattle.vlog_write.proofs.text.put_module_line.Goals as goal
 
 pub returns : goal.returns

@@ -1,7 +1,7 @@
 use Rattle.std.proofs.Common.{◌++◌, codes}
 use Rattle.vlog_text.specs.Emitted.{always_lines, gate_lines, input_lines, module_line, output_lines, reg_lines}
 use Rattle.vlog_text.specs.Emitted.{wire_lines}
-use Rattle.vlog_write.proofs.Pieces.{more, then}
+use Rattle.vlog_write.proofs.Putting.{more, then}
 use Rattle.vlog_write.proofs.text.put_netlist.Goals as goal
 
 pub returns : goal.returns

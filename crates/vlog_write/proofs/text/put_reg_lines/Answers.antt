@@ -2,7 +2,7 @@ use Rattle.std.proofs.Common.{◌∙◌, codes, false, arith}
 use Rattle.net_core.specs.declared.gate.Wire.{Wire}
 use Rattle.net_core.specs.declared.gate.Wire.TheVariants.{Const}
 use Rattle.vlog_text.specs.Emitted.{declared, reg_name}
-use Rattle.vlog_write.proofs.Pieces.{numbered_more}
+use Rattle.vlog_write.proofs.Putting.{numbered_more}
 use Rattle.vlog_write.proofs.text.put_reg_lines.Goals as goal
 
 pub loop-reg-preserved : goal.loop-reg-preserved

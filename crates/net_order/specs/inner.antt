@@ -1,4 +1,0 @@
-pub mod Queues
-pub mod Rows
-pub mod Checks
-pub mod Ordered

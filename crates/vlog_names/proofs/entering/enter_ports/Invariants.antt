@@ -1,0 +1,11 @@
+use Rattle.std.proofs.Common.{Some}
+use Rattle.vlog_text.specs.declared.raw.RawName.{RawName}
+use Rattle.vlog_text.specs.declared.raw.RawGate.{RawGate}
+use Rattle.vlog_text.specs.declared.raw.RawReg.{RawReg}
+use Rattle.vlog_text.specs.Words.{target_name, repeated}
+use Rattle.vlog_text.specs.Refusing.{earliest, refusals}
+use Rattle.vlog_names.proofs.Entries.{Entered}
+use Rattle.vlog_names.proofs.entering.enter_ports.Given as goal
+
+abbrev pub invariant-loop-place : goal.invariant-loop-place
+invariant-loop-place l = Entered (λ (n : RawName). Some n) 4 l.ports l.place l.firsts l.initial.found l.found

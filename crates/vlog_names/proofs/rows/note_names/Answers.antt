@@ -1,0 +1,25 @@
+use Rattle.std.proofs.Common.{◌≡◌, ◌<◌, drop, map, List, arith, ap, ◌∙◌, length}
+use Rattle.std.specs.List.{filter_map, flat_map}
+use Rattle.vlog_text.specs.declared.raw.RawName.{RawName}
+use Rattle.vlog_text.specs.declared.raw.RawGate.{RawGate}
+use Rattle.vlog_text.specs.declared.raw.RawReg.{RawReg}
+use Rattle.vlog_text.specs.declared.raw.RawPin.{RawPin}
+use Rattle.vlog_text.specs.Words.{pin_name, target_name}
+use Rattle.vlog_text.specs.Refusing.{earliest, refusals}
+use Rattle.vlog_names.specs.Names.{kinds_in}
+use Rattle.vlog_names.specs.inner.Steps.{has_fault, when}
+use Rattle.vlog_names.specs.inner.Rows.{faulty, named_pin, named_target}
+use Rattle.vlog_names.proofs.Noting.{noted_more, name_opens}
+use Rattle.vlog_names.proofs.rows.note_names.Goals as goal
+
+pub loop-name-preserved : goal.loop-name-preserved
+loop-name-preserved c =
+    let fault = c.args.fault in
+    let kinds = kinds_in c.args.kinds.now in
+    let x = c.name-item.result in
+    noted_more (λ (xs : List RawName). faulty fault kinds (xs)) (λ (x : RawName). when (has_fault fault kinds x.word) x)
+    (name_opens fault kinds) c.args.rule c.args.names.now c.loop-name.name-index x c.loop-name.found
+    c.note_if-found.result
+    (omega arith) c.name-item.is (c.note_if-found.ensures
+    ∙ ap (λ b. earliest c.loop-name.found (refusals c.args.rule (when b x))) c.has_fault.ensures)
+    ∙ c.loop-name.invariant

@@ -1,0 +1,7 @@
+use Rattle.std.proofs.Common.{◌≡◌, ℕ, ◌+◌, Bool, false, length}
+use Rattle.vlog_read.specs.inner.Queues.{marked, IsQueue}
+use Rattle.vlog_read.proofs.Ordering.{Ordered}
+use Rattle.vlog_read.proofs.order.order.Given as goal
+
+abbrev pub invariant-loop : goal.invariant-loop
+invariant-loop l = Ordered l.gates l.taken.items l.ready l.waiting l.order.items l.counter

@@ -1,0 +1,5 @@
+pub mod Queues
+pub mod Named
+pub mod Ordered
+pub mod Parts
+pub mod Assembled
