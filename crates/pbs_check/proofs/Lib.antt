@@ -1,3 +1,5 @@
+pub mod Alike
+pub mod AlikeUses
 pub mod CheckLemmas
 pub mod CircleLemmas
 pub mod DeclaringRules
@@ -14,6 +16,7 @@ pub mod NamedLemmas
 pub mod RecursionLemmas
 pub mod RoundLemmas
 pub mod NumberLemmas
+pub mod SameRules
 pub mod SearchLemmas
 pub mod SettleLemmas
 pub mod TargetLemmas

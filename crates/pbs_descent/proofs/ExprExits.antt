@@ -10,7 +10,7 @@ use Rattle.pbs_ast.specs.declared.syntax.Kind.{items_hidden-the_row-Expr-0}
 use Rattle.pbs_ast.specs.declared.syntax.Kind.TheBlock.{hidden-the_row-Expr-0}
 use Rattle.pbs_text.specs.declared.fail.ReadSpec.{ReadSpec}
 use Rattle.pbs_text.specs.declared.fail.ReadSpec.TheVariants.{Memory, Refused}
-use Rattle.pbs_text.specs.Bare.{expr, bare_kind, bare_exprs, bare_expr}
+use Rattle.pbs_ast.specs.Bare.{expr, bare_kind, bare_exprs, bare_expr}
 use Rattle.pbs_text.specs.Trees.{word_at, joined, term_tree, group_extent, prim_extent, seq_node, choice_node}
 use Rattle.pbs_text.specs.Trees.{operator_node, repeat_node, hold_node, scope_node, expr_items, seq_items, item_tree}
 use Rattle.pbs_text.specs.Trees.{prim_tree, group_tree, seq_tree}

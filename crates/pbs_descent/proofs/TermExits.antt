@@ -9,7 +9,7 @@ use Rattle.pbs_ast.specs.declared.syntax.SpecTerm.{items-the_row-SpecTerm, items
 use Rattle.pbs_ast.specs.declared.syntax.SpecTerm.TheBlock.{hidden-the_row-SpecTerm-0}
 use Rattle.pbs_text.specs.declared.fail.ReadSpec.{ReadSpec}
 use Rattle.pbs_text.specs.declared.fail.ReadSpec.TheVariants.{Refused}
-use Rattle.pbs_text.specs.Bare.{bare_term, bare_terms}
+use Rattle.pbs_ast.specs.Bare.{bare_term, bare_terms}
 use Rattle.pbs_text.specs.Trees.{word_at, one_or, all_node, any_node, unit_tree, all_items, term_items, all_tree}
 use Rattle.pbs_text.specs.Holes.{unit_nesting, TermHole, InRound, FirstAll, NextAll, UnitHole, UnderNot, FirstUnit}
 use Rattle.pbs_text.specs.Holes.{NextUnit}

@@ -1,6 +1,6 @@
 // Expressions.
 ghost use Rattle.std.specs.Prelude.{ℕ, ◌≡◌, ◌≤◌, ◌<◌, ◌+◌, ◌∷◌, ◌++◌, [], length, true, IfOk, IfErr, MatchOption};
-ghost use Rattle.pbs_text.specs.Bare.{bare_term, bare_expr, expr};
+ghost use Rattle.pbs_ast.specs.Bare.{bare_term, bare_expr, expr};
 ghost use Rattle.pbs_text.specs.Trees.{joined, operator_node, repeat_node, scope_node, word_at};
 ghost use Rattle.pbs_text.specs.Grammar.{token};
 ghost use Rattle.pbs_text.specs.places.Places.{WantsItem};

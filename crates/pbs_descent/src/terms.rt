@@ -1,7 +1,7 @@
 // Terms.
 ghost use Rattle.std.specs.Prelude.{ℕ, ◌≡◌, ◌≤◌, ◌<◌, ◌+◌, ◌∷◌, ◌++◌, [], length, true, IfOk, IfErr, MatchOption};
 ghost use Rattle.pbs_ast.specs.declared.syntax.SpecTerm as node;
-ghost use Rattle.pbs_text.specs.Bare.{bare_term};
+ghost use Rattle.pbs_ast.specs.Bare.{bare_term};
 ghost use Rattle.pbs_text.specs.Grammar.{token};
 ghost use Rattle.pbs_text.specs.Trees.{unit_tree};
 ghost use Rattle.pbs_descent.specs.Marks.{kind_of};

@@ -2,7 +2,7 @@
 ghost use Rattle.std.specs.Prelude.{◌≡◌, None, IfOk};
 ghost use Rattle.pbs_ast.specs.Sound.{or_else};
 ghost use Rattle.pbs_ast.specs.Trees.{tree_of};
-ghost use Rattle.pbs_text.specs.Bare.{bare};
+ghost use Rattle.pbs_ast.specs.Bare.{bare};
 ghost use Rattle.pbs_rules.specs.Naming.{action_names, input_names};
 ghost use Rattle.pbs_check.specs.Checked.{IsUnbroken};
 ghost use Rattle.pbs_expand.specs.Ready.{NamesDeclared};

@@ -23,7 +23,7 @@ row_items : (inputs : List Decl) (n : _) (row : Row_of-SpecTerm n)
 row_items inputs n end_of-SpecTerm = refl
 row_items inputs n (more_of-SpecTerm t rest) = ap (λ ts. written inputs t ∷ ts) (row_items inputs _ rest)
 
-row_list : (inputs : List Decl) (items : List SpecTerm)
+pub row_list : (inputs : List Decl) (items : List SpecTerm)
     → written_row inputs (hidden-the_row-SpecTerm-0 items) ≡ map (written inputs) items
 row_list inputs items = row_items inputs _ (hidden-the_row-SpecTerm-0 items)
     ∙ ap (map (written inputs)) (items_hidden-the_row-SpecTerm-0 items)

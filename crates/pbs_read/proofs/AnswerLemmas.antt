@@ -6,7 +6,7 @@ use Rattle.pbs_ast.specs.declared.syntax.Spec.{Spec}
 use Rattle.pbs_text.specs.declared.fail.ReadSpec.{ReadSpec}
 use Rattle.pbs_text.specs.declared.fail.ReadSpec.TheVariants.{Memory, Refused}
 use Rattle.pbs_text.specs.declared.token.Token.{Token}
-use Rattle.pbs_text.specs.Bare.{bare}
+use Rattle.pbs_ast.specs.Bare.{bare}
 use Rattle.pbs_text.specs.Lexing.{tokens}
 use Rattle.pbs_text.specs.Refusals.{Says}
 use Rattle.pbs_lex.specs.Stops.{StopsLexing}

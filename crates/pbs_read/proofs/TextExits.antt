@@ -7,7 +7,7 @@ use Rattle.pbs_text.specs.declared.fail.ReadSpec.{ReadSpec}
 use Rattle.pbs_text.specs.declared.fail.ReadSpec.TheVariants.{Memory, Refused}
 use Rattle.pbs_text.specs.places.Reading.{stepped, bind, read}
 use Rattle.pbs_descent.specs.Descent.{BeginsWith, NoFront, front_refusal}
-use Rattle.pbs_text.specs.Bare.{bare_prod}
+use Rattle.pbs_ast.specs.Bare.{bare_prod}
 use Rattle.pbs_text.specs.Trees.{Declared, with_decl}
 use Rattle.pbs_read.specs.inner.DeclDescent.{ReadsInputs, ReadsNames}
 use Rattle.pbs_read.specs.inner.DeclDescent.{ReadsLevel, ReadsRightSide, StopsRightSide, ReadsProd}

@@ -7,7 +7,7 @@ use Rattle.pbs_ast.specs.declared.syntax.Kind.{Kind}
 use Rattle.pbs_ast.specs.declared.syntax.SpecTerm.{SpecTerm}
 use Rattle.pbs_ast.specs.declared.syntax.Expr.{Expr}
 use Rattle.pbs_ast.specs.declared.syntax.Spec.{Spec}
-use Rattle.pbs_text.specs.Bare.{no_place, expr}
+use Rattle.pbs_ast.specs.Bare.{no_place, expr}
 use Rattle.pbs_text.specs.Grammar.{TwoNumeral, DigitNumeral, Negated, Bracketed, Named, OneUnit, MoreUnits, OneAll}
 use Rattle.pbs_text.specs.Grammar.{OneSeq, MoreSeqs, OneItem, Plain, Counted, Terminal, Action, Call, Grouped}
 use Rattle.pbs_text.specs.Grammar.{FullGroup, OneName, NoSets, MoreSets, ActionDecl, LevelDecl, NoDecls, MoreDecls}

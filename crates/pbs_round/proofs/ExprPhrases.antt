@@ -13,7 +13,7 @@ use Rattle.pbs_text.specs.declared.token.Token.{Token}
 use Rattle.pbs_text.specs.declared.token.Operator.{Operator}
 use Rattle.pbs_text.specs.declared.token.Operator.TheVariants.{StarOp, PlusOp, OptOp}
 use Rattle.pbs_text.specs.declared.token.TokenKind.TheVariants as kind
-use Rattle.pbs_text.specs.Bare.{no_place, expr}
+use Rattle.pbs_ast.specs.Bare.{no_place, expr}
 use Rattle.pbs_text.specs.Grammar.{token, Second, numeral_kind, operator_kind, ExprPhrase, OneSeq, MoreSeqs, SeqPhrase}
 use Rattle.pbs_text.specs.Grammar.{OneItem, MoreItems, ItemPhrase, Plain, Repeated, Counted, PrimPhrase, Terminal}
 use Rattle.pbs_text.specs.Grammar.{Action, Call, Grouped, Hold, Try, GroupPhrase, EmptyGroup, FullGroup, term_tokens}

@@ -11,7 +11,7 @@ use Rattle.pbs_ast.specs.declared.syntax.Prod.{Prod}
 use Rattle.pbs_ast.specs.declared.syntax.Spec.{Spec}
 use Rattle.pbs_text.specs.declared.token.Token.{Token}
 use Rattle.pbs_text.specs.declared.token.TokenKind.{TokenKind}
-use Rattle.pbs_text.specs.Bare.{expr}
+use Rattle.pbs_ast.specs.Bare.{expr}
 use Rattle.pbs_text.specs.Grammar.{token, bit_kind, version_kind, numeral_kind, width_kind, Width, OneBit, TwoBits}
 use Rattle.pbs_text.specs.Grammar.{MoreBits, InputPhrase, OneWire, Bus, InputsPhrase, OneInput, MoreInputs}
 use Rattle.pbs_text.specs.Grammar.{NamesPhrase, OneName, MoreNames, SetsPhrase, NoSets, MoreSets, DeclPhrase}

@@ -10,7 +10,7 @@ use Rattle.pbs_ast.specs.declared.syntax.Decl.{Decl}
 use Rattle.pbs_ast.specs.declared.syntax.Level.{Level}
 use Rattle.pbs_ast.specs.declared.syntax.Prod.{Prod}
 use Rattle.pbs_ast.specs.declared.syntax.Spec.{Spec}
-use Rattle.pbs_text.specs.Bare.{no_place, expr, bare_term, bare_terms, bare_kind, bare_exprs, bare_prod, bare}
+use Rattle.pbs_ast.specs.Bare.{no_place, expr, bare_term, bare_terms, bare_kind, bare_exprs, bare_prod, bare}
 use Rattle.pbs_print.specs.Canonical.{joined, bracketed, is_any, is_joined, is_empty, is_choice, is_list, is_wide}
 use Rattle.pbs_print.specs.Canonical.{bit_text, bounds_text, term_text, all_members, any_members, kind_text}
 use Rattle.pbs_print.specs.Canonical.{seq_members, choice_members, decl_text, decls_line, set_text, level_line}

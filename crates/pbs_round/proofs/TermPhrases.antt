@@ -8,7 +8,7 @@ use Rattle.pbs_ast.specs.declared.syntax.SpecTerm.{items-the_row-SpecTerm, items
 use Rattle.pbs_ast.specs.declared.syntax.SpecTerm.TheBlock.{hidden-the_row-SpecTerm-0}
 use Rattle.pbs_text.specs.declared.token.Token.{Token}
 use Rattle.pbs_text.specs.declared.token.TokenKind.TheVariants as kind
-use Rattle.pbs_text.specs.Bare.{no_place}
+use Rattle.pbs_ast.specs.Bare.{no_place}
 use Rattle.pbs_text.specs.Grammar.{token, bit_kind, numeral_kind, UnitPhrase, Negated, Bracketed, Named, Bit, Compared}
 use Rattle.pbs_text.specs.Grammar.{AllPhrase, OneUnit, MoreUnits, TermPhrase, OneAll, MoreAlls, unit_tokens, all_tokens}
 use Rattle.pbs_text.specs.Grammar.{term_tokens}

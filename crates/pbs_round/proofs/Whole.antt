@@ -9,7 +9,7 @@ use Rattle.pbs_text.specs.places.Steps.{walk}
 use Rattle.pbs_text.specs.Refusals.{IsRead, Says}
 use Rattle.pbs_text.specs.Lexing.{tokens}
 use Rattle.pbs_text.specs.Answers.{StandsFor}
-use Rattle.pbs_text.specs.Bare.{bare}
+use Rattle.pbs_ast.specs.Bare.{bare}
 use Rattle.pbs_grammar.proofs.Phrases.{walk-text}
 use Rattle.pbs_grammar.proofs.Exact.{reading_says, reading_is}
 use Rattle.pbs_print.specs.Canonical.{canonical}

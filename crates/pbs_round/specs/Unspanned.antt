@@ -11,7 +11,7 @@ use Rattle.pbs_ast.specs.declared.syntax.Set.{Set}
 use Rattle.pbs_ast.specs.declared.syntax.Level.{Level}
 use Rattle.pbs_ast.specs.declared.syntax.Prod.{Prod}
 use Rattle.pbs_ast.specs.declared.syntax.Spec.{Spec}
-use Rattle.pbs_text.specs.Bare.{no_place, expr}
+use Rattle.pbs_ast.specs.Bare.{no_place, expr}
 
 abbrev pub no_span : Span
 no_span = record { start = 0; end = 0 }

@@ -4,7 +4,7 @@
 ghost use Rattle.std.specs.Prelude.{ℕ, ◌≡◌, ◌≤◌, List, length};
 ghost use Rattle.pbs_ast.specs.declared.syntax.Spec.{Spec};
 ghost use Rattle.pbs_text.specs.Answers.{StandsFor};
-ghost use Rattle.pbs_text.specs.Bare.{bare};
+ghost use Rattle.pbs_ast.specs.Bare.{bare};
 ghost use Rattle.pbs_print.specs.Canonical.{canonical};
 ghost use Rattle.pbs_round.specs.Unspanned.{unspanned};
 ghost use Rattle.pbs_round.specs.Written.{IsWritten, ReadsBack};

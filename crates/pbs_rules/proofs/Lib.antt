@@ -1,1 +1,2 @@
+pub mod BareForms
 pub mod NameLemmas

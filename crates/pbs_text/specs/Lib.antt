@@ -1,7 +1,6 @@
 pub mod Lexing
 pub mod Grammar
 pub mod Trees
-pub mod Bare
 pub mod Holes
 pub mod Refusals
 pub mod Answers

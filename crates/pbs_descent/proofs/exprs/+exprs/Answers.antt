@@ -1,6 +1,6 @@
 use Rattle.std.proofs.Common.{[], ◌∷◌, ◌++◌, ap, ◌∙◌}
 use Rattle.std.proofs.lemmas.Result.{err_from_is_err_and}
-use Rattle.pbs_text.specs.Bare.{bare_expr}
+use Rattle.pbs_ast.specs.Bare.{bare_expr}
 use Rattle.pbs_text.specs.declared.token.TokenKind.TheVariants.{Comma, Bar}
 use Rattle.pbs_descent.proofs.TermExits.{begins, ok_then, err_then}
 use Rattle.pbs_descent.proofs.ExprExits.{group_empty, group_full, group_stops, group_unclosed, prim_use, prim_group}

@@ -1,4 +1,4 @@
-use Rattle.pbs_text.specs.Bare.{bare_term}
+use Rattle.pbs_ast.specs.Bare.{bare_term}
 use Rattle.pbs_descent.proofs.TermExits.{unit_named, named_ok, ok_then}
 use Rattle.pbs_descent.proofs.terms.named.Goals as goal
 

@@ -7,14 +7,7 @@ use Rattle.pbs_ast.specs.declared.syntax.Expr.{Expr}
 use Rattle.pbs_ast.specs.declared.syntax.Kind.{Row_of-Expr, end_of-Expr, more_of-Expr}
 use Rattle.pbs_ast.specs.declared.syntax.Kind.{items-the_row-Expr, items_hidden-the_row-Expr-0}
 use Rattle.pbs_ast.specs.declared.syntax.Kind.TheBlock.{hidden-the_row-Expr-0}
-use Rattle.pbs_text.specs.Bare.{expr, bare_term, bare_terms, bare_kind, bare_exprs, bare_expr}
-
--- the items of a row that is made of a list
-pub terms_of_row : (xs : List SpecTerm) → items-the_row-SpecTerm _ (hidden-the_row-SpecTerm-0 xs) ≡ xs
-terms_of_row xs = items_hidden-the_row-SpecTerm-0 xs
-
-pub exprs_of_row : (xs : List Expr) → items-the_row-Expr _ (hidden-the_row-Expr-0 xs) ≡ xs
-exprs_of_row xs = items_hidden-the_row-Expr-0 xs
+use Rattle.pbs_ast.specs.Bare.{expr, bare_term, bare_terms, bare_kind, bare_exprs, bare_expr}
 
 pub bare_terms_is : (n : _) (row : Row_of-SpecTerm n) → bare_terms row ≡ map bare_term (items-the_row-SpecTerm n row)
 bare_terms_is n end_of-SpecTerm = refl
@@ -25,7 +18,7 @@ bare_exprs_is n end_of-Expr = refl
 bare_exprs_is n (more_of-Expr at e rest) = ap (λ es. expr at (bare_kind e) ∷ es) (bare_exprs_is _ rest)
 
 pub bare_terms_of : (xs : List SpecTerm) → bare_terms (hidden-the_row-SpecTerm-0 xs) ≡ map bare_term xs
-bare_terms_of xs = bare_terms_is _ (hidden-the_row-SpecTerm-0 xs) ∙ ap (map bare_term) (terms_of_row xs)
+bare_terms_of xs = bare_terms_is _ (hidden-the_row-SpecTerm-0 xs) ∙ ap (map bare_term) (items_hidden-the_row-SpecTerm-0 xs)
 
 pub bare_exprs_of : (xs : List Expr) → bare_exprs (hidden-the_row-Expr-0 xs) ≡ map bare_expr xs
-bare_exprs_of xs = bare_exprs_is _ (hidden-the_row-Expr-0 xs) ∙ ap (map bare_expr) (exprs_of_row xs)
+bare_exprs_of xs = bare_exprs_is _ (hidden-the_row-Expr-0 xs) ∙ ap (map bare_expr) (items_hidden-the_row-Expr-0 xs)

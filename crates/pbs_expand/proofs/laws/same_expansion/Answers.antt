@@ -1,5 +1,5 @@
-use Rattle.pbs_bare.proofs.SameWalks.{same_tree, same_refusal, same_answer}
-use Rattle.pbs_bare.proofs.laws.same_expansion.Goals as goal
+use Rattle.pbs_expand.proofs.SameWalks.{same_tree, same_refusal, same_answer}
+use Rattle.pbs_expand.proofs.laws.same_expansion.Goals as goal
 
 pub returns-clause-tree : goal.returns-clause-tree
 returns-clause-tree c = same_tree

@@ -3,12 +3,12 @@ use Rattle.std.proofs.Common.{◌≡◌, ℕ, List, [], ◌∷◌, ◌++◌, map
 use Rattle.pbs_base.specs.declared.refusal.Span.{Span}
 use Rattle.pbs_ast.specs.declared.syntax.SpecTerm as terms
 use Rattle.pbs_ast.specs.declared.syntax.SpecTerm.{SpecTerm, Row_of-SpecTerm, end_of-SpecTerm, more_of-SpecTerm}
-use Rattle.pbs_ast.specs.declared.syntax.SpecTerm.{items-the_row-SpecTerm}
+use Rattle.pbs_ast.specs.declared.syntax.SpecTerm.{items-the_row-SpecTerm, items_hidden-the_row-SpecTerm-0}
 use Rattle.pbs_ast.specs.declared.syntax.SpecTerm.TheBlock.{hidden-the_row-SpecTerm-0}
 use Rattle.pbs_ast.specs.declared.syntax.Expr.{Expr}
 use Rattle.pbs_ast.specs.declared.syntax.Prod.{Prod}
 use Rattle.pbs_ast.specs.declared.syntax.Spec.{Spec}
-use Rattle.pbs_text.specs.Bare.{bare_term, bare_terms, bare_expr, bare_prod}
+use Rattle.pbs_ast.specs.Bare.{bare_term, bare_terms, bare_expr, bare_prod}
 use Rattle.pbs_rules.specs.Forms.{Form, form, parts, Stands, OfMain, OfProd, OfPart}
 use Rattle.pbs_rules.specs.Forms as forms
 use Rattle.pbs_rules.specs.Naming.{prod_names}
@@ -18,9 +18,8 @@ use Rattle.pbs_check.specs.Recursion as recursion
 use Rattle.pbs_check.specs.Recursion.{IsWithin, Whole, UsesAt, Here, Reaches, Arrived, ByUse}
 use Rattle.pbs_check.specs.Using.{leaves, row_leaves, form_leaves, own_uses, use_of, leaf_use}
 use Rattle.pbs_check.specs.inner.Walking.{all_leaves}
-use Rattle.pbs_bare.proofs.Rows.{terms_of_row}
-use Rattle.pbs_bare.proofs.Alike.{FormsAlike, Empties, Terminals, Actions, Seqs, Choices, Stars, Pluses, Opts, Holds}
-use Rattle.pbs_bare.proofs.Alike.{Scopes, Names, Repeats, forms_alike, parts_alike, item_alike, body_alike}
+use Rattle.pbs_check.proofs.Alike.{FormsAlike, Empties, Terminals, Actions, Seqs, Choices, Stars, Pluses, Opts, Holds}
+use Rattle.pbs_check.proofs.Alike.{Scopes, Names, Repeats, forms_alike, parts_alike, item_alike, body_alike}
 
 -- ---- the leaves of terms
 leaves_of_row : (n : _) (row : Row_of-SpecTerm n) → row_leaves row ≡ all_leaves (items-the_row-SpecTerm n row)
@@ -28,7 +27,7 @@ leaves_of_row n end_of-SpecTerm = refl
 leaves_of_row n (more_of-SpecTerm t rest) = ap (λ ls. leaves t ++ ls) (leaves_of_row _ rest)
 
 leaves_of_list : (xs : List SpecTerm) → row_leaves (hidden-the_row-SpecTerm-0 xs) ≡ all_leaves xs
-leaves_of_list xs = leaves_of_row _ (hidden-the_row-SpecTerm-0 xs) ∙ ap all_leaves (terms_of_row xs)
+leaves_of_list xs = leaves_of_row _ (hidden-the_row-SpecTerm-0 xs) ∙ ap all_leaves (items_hidden-the_row-SpecTerm-0 xs)
 
 mutual
   leaves_bare : (t : SpecTerm) → leaves (bare_term t) ≡ leaves t

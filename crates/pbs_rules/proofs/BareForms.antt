@@ -1,11 +1,17 @@
--- The form of an expression with every box at one place.
-use Rattle.std.proofs.Common.{◌≡◌, map, refl, ap, ◌∙◌}
+-- The form of an expression with every box at one place, and the body of a production.
+use Rattle.std.proofs.Common.{◌≡◌, ℕ, true, false, List, [], ◌∷◌, Option, Some, None, map, refl, ap, ◌∙◌}
+use Rattle.std.specs.Prelude.{◌==◌, if◌then◌else◌}
+use Rattle.std.specs.Option.{option_map}
+use Rattle.std.specs.Cmp.Lexicographic.{pointwise}
 use Rattle.pbs_ast.specs.declared.syntax.Expr.{Expr}
 use Rattle.pbs_ast.specs.declared.syntax.Kind as kind
-use Rattle.pbs_text.specs.Bare.{bare_term, bare_kind, bare_exprs, bare_expr}
+use Rattle.pbs_ast.specs.declared.syntax.Kind.{items_hidden-the_row-Expr-0}
+use Rattle.pbs_ast.specs.declared.syntax.Prod.{Prod}
+use Rattle.pbs_ast.specs.Bare.{bare_term, bare_kind, bare_exprs, bare_expr, bare_prod}
 use Rattle.pbs_rules.specs.Forms.{Form, form, form_of}
 use Rattle.pbs_rules.specs.Forms.{Empty, Terminal, Action, Seq, Choice, Star, Plus, Opt, Hold, Scope, Name, Repeat}
-use Rattle.pbs_bare.proofs.Rows.{exprs_of_row, bare_exprs_is}
+use Rattle.pbs_rules.specs.Naming.{body_of}
+use Rattle.pbs_ast.proofs.BareRows.{bare_exprs_is}
 
 abbrev pub bare_form : Form → Form
 bare_form Empty = Empty
@@ -25,8 +31,8 @@ form_of_bare : (k : kind.Kind) → form_of (bare_kind k) ≡ bare_form (form_of 
 form_of_bare kind.Empty = refl
 form_of_bare (kind.Terminal t) = refl
 form_of_bare (kind.Action name at) = refl
-form_of_bare (kind.Seq' n row) = ap Seq (exprs_of_row (bare_exprs row) ∙ bare_exprs_is _ row)
-form_of_bare (kind.Choice' n row) = ap Choice (exprs_of_row (bare_exprs row) ∙ bare_exprs_is _ row)
+form_of_bare (kind.Seq' n row) = ap Seq (items_hidden-the_row-Expr-0 (bare_exprs row) ∙ bare_exprs_is _ row)
+form_of_bare (kind.Choice' n row) = ap Choice (items_hidden-the_row-Expr-0 (bare_exprs row) ∙ bare_exprs_is _ row)
 form_of_bare (kind.Star' _ s e) = refl
 form_of_bare (kind.Plus' _ s e) = refl
 form_of_bare (kind.Opt' _ s e) = refl
@@ -37,3 +43,12 @@ form_of_bare (kind.Repeat' _ s e m n) = refl
 
 pub form_bare : (e : Expr) → form (bare_expr e) ≡ bare_form (form e)
 form_bare e = form_of_bare e.kind
+
+-- the body of a production
+pub body_bare : (prods : List Prod) (name : List ℕ)
+    → body_of (map bare_prod prods) name ≡ option_map bare_expr (body_of prods name)
+body_bare [] name = refl
+body_bare (p ∷ ps) name =
+    elim (pointwise ◌==◌ p.name name) as (λ b. (if b then Some (bare_expr p.body) else body_of (map bare_prod ps) name)
+    ≡ option_map bare_expr (if b then Some p.body else body_of ps name))
+    [ true ↦ refl | false ↦ body_bare ps name ]

@@ -5,22 +5,10 @@ use Rattle.bool_terms.specs.Terms as bools
 use Rattle.pbs_ast.specs.declared.syntax.Decl.{Decl}
 use Rattle.pbs_ast.specs.declared.syntax.SpecTerm as terms
 use Rattle.pbs_ast.specs.declared.syntax.SpecTerm.{SpecTerm, Row_of-SpecTerm, end_of-SpecTerm, more_of-SpecTerm}
-use Rattle.pbs_ast.specs.declared.syntax.SpecTerm.{items-the_row-SpecTerm}
-use Rattle.pbs_ast.specs.declared.syntax.SpecTerm.TheBlock.{hidden-the_row-SpecTerm-0}
-use Rattle.pbs_text.specs.Bare.{bare_term, bare_terms}
+use Rattle.pbs_ast.specs.Bare.{bare_term, bare_terms}
 use Rattle.pbs_expand.specs.declared.terms.Connective.TheVariants.{AndOf, OrOf}
 use Rattle.pbs_expand.specs.Written.{written, written_row, joined}
-use Rattle.pbs_bare.proofs.Rows.{terms_of_row}
-
-written_row_is : (inputs : List Decl) (n : _) (row : Row_of-SpecTerm n)
-    → written_row inputs row ≡ map (written inputs) (items-the_row-SpecTerm n row)
-written_row_is inputs n end_of-SpecTerm = refl
-written_row_is inputs n (more_of-SpecTerm t rest) = ap (λ ts. written inputs t ∷ ts) (written_row_is inputs _ rest)
-
-written_of : (inputs : List Decl) (xs : List SpecTerm)
-    → written_row inputs (hidden-the_row-SpecTerm-0 xs) ≡ map (written inputs) xs
-written_of inputs xs =
-    written_row_is inputs _ (hidden-the_row-SpecTerm-0 xs) ∙ ap (map (written inputs)) (terms_of_row xs)
+use Rattle.pbs_expand.proofs.TermRows.{row_list}
 
 mutual
   pub written_bare : (inputs : List Decl) (t : SpecTerm) → written inputs (bare_term t) ≡ written inputs t
@@ -28,9 +16,9 @@ mutual
   written_bare inputs (terms.Name word at) = refl
   written_bare inputs (terms.Not' _ t) = ap bools.Not (written_bare inputs t)
   written_bare inputs (terms.All' n row) =
-      ap (λ ts. joined (length ts) AndOf ts) (written_of inputs (bare_terms row) ∙ written_bare_row inputs _ row)
+      ap (λ ts. joined (length ts) AndOf ts) (row_list inputs (bare_terms row) ∙ written_bare_row inputs _ row)
   written_bare inputs (terms.Any' n row) =
-      ap (λ ts. joined (length ts) OrOf ts) (written_of inputs (bare_terms row) ∙ written_bare_row inputs _ row)
+      ap (λ ts. joined (length ts) OrOf ts) (row_list inputs (bare_terms row) ∙ written_bare_row inputs _ row)
   written_bare inputs (terms.Equal word at n to) = refl
 
   written_bare_row : (inputs : List Decl) (n : _) (row : Row_of-SpecTerm n)

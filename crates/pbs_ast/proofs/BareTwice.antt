@@ -6,8 +6,8 @@ use Rattle.pbs_ast.specs.declared.syntax.Expr.{Expr}
 use Rattle.pbs_ast.specs.declared.syntax.Prod.{Prod}
 use Rattle.pbs_ast.specs.declared.syntax.Kind as kind
 use Rattle.pbs_ast.specs.declared.syntax.Kind.{Kind, Row_of-Expr, end_of-Expr, more_of-Expr}
-use Rattle.pbs_text.specs.Bare.{expr, no_place, bare_term, bare_terms, bare_kind, bare_exprs, bare_expr, bare_prod}
-use Rattle.pbs_bare.proofs.Rows.{bare_terms_of, bare_exprs_of}
+use Rattle.pbs_ast.specs.Bare.{expr, no_place, bare_term, bare_terms, bare_kind, bare_exprs, bare_expr, bare_prod}
+use Rattle.pbs_ast.proofs.BareRows.{bare_terms_of, bare_exprs_of}
 
 mutual
   pub term_twice : (t : SpecTerm) → bare_term (bare_term t) ≡ bare_term t

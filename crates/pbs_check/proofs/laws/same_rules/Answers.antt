@@ -1,5 +1,5 @@
-use Rattle.pbs_bare.proofs.SameRules.{same_broken, same_first, same_checks}
-use Rattle.pbs_bare.proofs.laws.same_rules.Goals as goal
+use Rattle.pbs_check.proofs.SameRules.{same_broken, same_first, same_checks}
+use Rattle.pbs_check.proofs.laws.same_rules.Goals as goal
 
 pub returns-clause-broken : goal.returns-clause-broken
 returns-clause-broken c = same_broken

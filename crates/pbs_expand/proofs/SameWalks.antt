@@ -3,7 +3,7 @@ use Rattle.std.proofs.Common.{◌≡◌, ℕ, zero, suc, Result, Ok, Err, refl, 
 use Rattle.std.specs.Prelude.{◌↔◌}
 use Rattle.pbs_ast.specs.declared.main_tree.Main.{Main}
 use Rattle.pbs_ast.specs.declared.syntax.Spec.{Spec}
-use Rattle.pbs_text.specs.Bare.{bare}
+use Rattle.pbs_ast.specs.Bare.{bare}
 use Rattle.pbs_expand.specs.Parts as nodes
 use Rattle.pbs_expand.specs.Parts.{Part, Shape, Whole, shape}
 use Rattle.pbs_expand.specs.Walks.{Walk, Beyond, Terminal, Name, Star, Hold, Pair, Scope, walk, walked}
@@ -12,8 +12,8 @@ use Rattle.pbs_expand.specs.Wide.{first_too_wide}
 use Rattle.pbs_expand.specs.Expanded.{Gives, expanded, refusal, main_walk, nothing_yet, first_refusal}
 use Rattle.pbs_expand.specs.declared.failure.Expand.{Expand}
 use Rattle.pbs_expand.specs.declared.failure.Expand.TheVariants as answers
-use Rattle.pbs_bare.proofs.BareTerms.{written_bare}
-use Rattle.pbs_bare.proofs.BareParts.{bare_part, bare_shape, shape_bare, span_bare}
+use Rattle.pbs_expand.proofs.BareTerms.{written_bare}
+use Rattle.pbs_expand.proofs.BareParts.{bare_part, bare_shape, shape_bare, span_bare}
 
 -- the walk of a node, where those of its parts are so
 walked_bare : (spec : Spec) (v w : Part → Walk) → ((p : Part) → v (bare_part p) ≡ w p) → (s : Shape)

@@ -7,7 +7,7 @@ use Rattle.pbs_ast.specs.declared.syntax.SpecTerm.{SpecTerm}
 use Rattle.pbs_ast.specs.declared.syntax.Expr.{Expr}
 use Rattle.pbs_ast.specs.declared.syntax.Prod.{Prod}
 use Rattle.pbs_ast.specs.declared.syntax.Spec.{Spec}
-use Rattle.pbs_text.specs.Bare.{bare, bare_expr, bare_prod}
+use Rattle.pbs_ast.specs.Bare.{bare, bare_expr, bare_prod}
 use Rattle.pbs_rules.specs.Forms.{Form, Star, Plus, Scope, Terminal, Action, Repeat, form, Stands}
 use Rattle.pbs_rules.specs.Reach.{LiesIn, MayBeEmpty, HasTerminal, HasAction, HasScope}
 use Rattle.pbs_rules.specs.Moving.{Rule9, EmptyStar, EmptyPlus}
@@ -24,11 +24,11 @@ use Rattle.pbs_check.specs.Declaring.{declared_names}
 use Rattle.pbs_check.specs.Recursion.{Rule8, Recursive, Reaches}
 use Rattle.pbs_check.specs.Using.{Use, IsUse, InExpr, InLevel, IsDeclared, IsKind, Leaf, EqualLeaf, Rule6, NotDeclared}
 use Rattle.pbs_check.specs.Using.{Rule7, WrongKind, Rule18, TooLarge, Rule19, WrongCopies}
-use Rattle.pbs_bare.proofs.Alike.{FormsAlike, Terminals, Actions, Stars, Pluses, Scopes, Repeats, forms_alike}
-use Rattle.pbs_bare.proofs.Alike.{item_alike, lies_alike, may_alike}
-use Rattle.pbs_bare.proofs.AlikeUses.{with_exprs, stands_alike, form_leaves_alike, spans_alike, own_uses_alike}
-use Rattle.pbs_bare.proofs.AlikeUses.{declared_alike, names_alike, uses_alike, reaches_alike}
-use Rattle.pbs_bare.proofs.Twice.{expr_twice, prods_twice}
+use Rattle.pbs_check.proofs.Alike.{FormsAlike, Terminals, Actions, Stars, Pluses, Scopes, Repeats, forms_alike}
+use Rattle.pbs_check.proofs.Alike.{item_alike, lies_alike, may_alike}
+use Rattle.pbs_check.proofs.AlikeUses.{with_exprs, stands_alike, form_leaves_alike, spans_alike, own_uses_alike}
+use Rattle.pbs_check.proofs.AlikeUses.{declared_alike, names_alike, uses_alike, reaches_alike}
+use Rattle.pbs_ast.proofs.BareTwice.{expr_twice, prods_twice}
 
 -- ---- forms alike to those of which the rules speak
 star_of : {b : Expr} {g : Form} → FormsAlike (Star b) g → (c : Expr) × (g ≡ Star c) × (bare_expr b ≡ bare_expr c)

@@ -10,12 +10,12 @@ use Rattle.pbs_ast.specs.declared.syntax.Expr.{Expr}
 use Rattle.pbs_ast.specs.declared.syntax.Prod.{Prod}
 use Rattle.pbs_ast.specs.declared.syntax.Kind as kind
 use Rattle.pbs_ast.specs.declared.syntax.Kind.{Row_of-Expr, end_of-Expr, more_of-Expr, items-the_row-Expr}
+use Rattle.pbs_ast.specs.declared.syntax.Kind.{items_hidden-the_row-Expr-0}
 use Rattle.pbs_ast.specs.declared.syntax.Kind.TheBlock.{hidden-the_row-Expr-0}
-use Rattle.pbs_text.specs.Bare.{bare_term, bare_kind, bare_exprs, bare_expr, bare_prod}
+use Rattle.pbs_ast.specs.Bare.{bare_term, bare_kind, bare_exprs, bare_expr, bare_prod}
 use Rattle.pbs_rules.specs.Naming.{body_of}
 use Rattle.pbs_rules.specs.Forms as forms
 use Rattle.pbs_rules.specs.Forms.{Form, form, expr_of}
-use Rattle.std.specs.Cmp.Lexicographic.{pointwise}
 use Rattle.pbs_expand.specs.declared.parts.Pairing.{Pairing}
 use Rattle.pbs_expand.specs.declared.parts.Pairing.TheVariants.{Sequence, Choice}
 use Rattle.pbs_expand.specs.Parts as nodes
@@ -23,8 +23,7 @@ use Rattle.pbs_expand.specs.Parts.{Part, Whole, Run, Nothing, Starred, Copies, U
 use Rattle.pbs_expand.specs.Parts.{form_shape, named_shape, repeat_shape, listed_shape, halves, run_part, run_span}
 use Rattle.pbs_expand.specs.Parts.{copies_part, copies_shape, upto_shape, start_at, end_at}
 use Rattle.pbs_expand.specs.Parts.{stripped, stripped_from, stripped_row}
-use Rattle.pbs_bare.proofs.Rows.{exprs_of_row}
-use Rattle.pbs_bare.proofs.BareForms.{bare_form, form_bare}
+use Rattle.pbs_rules.proofs.BareForms.{bare_form, form_bare, body_bare}
 
 abbrev pub bare_part : Part → Part
 bare_part (Whole e) = Whole (bare_expr e)
@@ -69,7 +68,7 @@ only_of_row all n (more_of-Expr s e end_of-Expr) = refl
 only_of_row all n (more_of-Expr s e (more_of-Expr s' f rest)) = refl
 
 only_of_list : (all : Expr) (items : List Expr) → stripped_row all (hidden-the_row-Expr-0 items) ≡ only_of all items
-only_of_list all items = only_of_row all _ (hidden-the_row-Expr-0 items) ∙ ap (only_of all) (exprs_of_row items)
+only_of_list all items = only_of_row all _ (hidden-the_row-Expr-0 items) ∙ ap (only_of all) (items_hidden-the_row-Expr-0 items)
 
 mutual
   stripped_from_bare : (span : Span) (k : kind.Kind)
@@ -165,15 +164,6 @@ repeat_shape_bare span e m n =
     (upto_shape span e n) (upto_shape span (bare_expr e) n) (some (copies_part span e m) e)
     (some (copies_part span (bare_expr e) m) (bare_expr e)) (copies_shape_bare span e m) (upto_shape_bare span e n)
     (ap (λ p. some p (bare_expr e)) (copies_part_bare span e m))
-
--- the body of a production
-pub body_bare : (prods : List Prod) (name : List ℕ)
-    → body_of (map bare_prod prods) name ≡ option_map bare_expr (body_of prods name)
-body_bare [] name = refl
-body_bare (p ∷ ps) name =
-    elim (pointwise ◌==◌ p.name name) as (λ b. (if b then Some (bare_expr p.body) else body_of (map bare_prod ps) name)
-    ≡ option_map bare_expr (if b then Some p.body else body_of ps name))
-    [ true ↦ refl | false ↦ body_bare ps name ]
 
 named_shape_bare : (span : Span) (o : Option Expr)
     → named_shape span (option_map bare_expr o) ≡ bare_shape (named_shape span o)
