@@ -8,13 +8,13 @@ use Rattle.pbs_ast.specs.declared.syntax.SpecTerm.{SpecTerm}
 use Rattle.pbs_ast.specs.declared.syntax.Expr.{Expr}
 use Rattle.pbs_ast.specs.declared.syntax.Prod.{Prod}
 use Rattle.pbs_ast.specs.Bare.{bare_term, bare_expr, bare_prod}
-use Rattle.pbs_rules.specs.Naming.{body_of}
-use Rattle.pbs_rules.specs.Forms.{Form, form, parts}
-use Rattle.pbs_rules.specs.Forms.{Empty, Terminal, Action, Seq, Choice, Star, Plus, Opt, Hold, Scope, Name, Repeat}
-use Rattle.pbs_rules.specs.Reach.{LiesIn, Itself, InPart, InProd}
-use Rattle.pbs_rules.specs.Reach.{MayBeEmpty, EmptyMay, ActionMay, AllMay, SomeMay, NoneMay, StarMay, PlusMay, OptMay}
-use Rattle.pbs_rules.specs.Reach.{HoldMay, ScopeMay, NameMay, UnknownMay, NoCopyMay, CopiesMay}
-use Rattle.pbs_rules.proofs.BareForms.{bare_form, form_bare, body_bare}
+use Rattle.pbs_names.specs.Naming.{body_of}
+use Rattle.pbs_names.specs.Forms.{Form, form, parts}
+use Rattle.pbs_names.specs.Forms.{Empty, Terminal, Action, Seq, Choice, Star, Plus, Opt, Hold, Scope, Name, Repeat}
+use Rattle.pbs_names.specs.Reach.{LiesIn, Itself, InPart, InProd}
+use Rattle.pbs_names.specs.Reach.{MayBeEmpty, EmptyMay, ActionMay, AllMay, SomeMay, NoneMay, StarMay, PlusMay, OptMay}
+use Rattle.pbs_names.specs.Reach.{HoldMay, ScopeMay, NameMay, UnknownMay, NoCopyMay, CopiesMay}
+use Rattle.pbs_names.proofs.BareForms.{bare_form, form_bare, body_bare}
 use Rattle.pbs_ast.proofs.BareTwice.{term_twice, expr_twice, all_twice}
 
 -- forms of one kind with alike parts

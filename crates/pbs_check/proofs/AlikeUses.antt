@@ -9,9 +9,9 @@ use Rattle.pbs_ast.specs.declared.syntax.Expr.{Expr}
 use Rattle.pbs_ast.specs.declared.syntax.Prod.{Prod}
 use Rattle.pbs_ast.specs.declared.syntax.Spec.{Spec}
 use Rattle.pbs_ast.specs.Bare.{bare_term, bare_terms, bare_expr, bare_prod}
-use Rattle.pbs_rules.specs.Forms.{Form, form, parts, Stands, OfMain, OfProd, OfPart}
-use Rattle.pbs_rules.specs.Forms as forms
-use Rattle.pbs_rules.specs.Naming.{prod_names}
+use Rattle.pbs_names.specs.Forms.{Form, form, parts, Stands, OfMain, OfProd, OfPart}
+use Rattle.pbs_names.specs.Forms as forms
+use Rattle.pbs_names.specs.Naming.{prod_names}
 use Rattle.pbs_check.specs.Declaring.{declared_prods, named}
 use Rattle.pbs_check.specs.declared.uses.Wanted.TheVariants as wanted
 use Rattle.pbs_check.specs.Recursion as recursion

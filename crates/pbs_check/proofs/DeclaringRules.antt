@@ -8,7 +8,7 @@ use Rattle.pbs_base.specs.declared.refusal.Span.{Span}
 use Rattle.pbs_ast.specs.declared.syntax.Decl.{Decl}
 use Rattle.pbs_ast.specs.declared.syntax.Level.{Level}
 use Rattle.pbs_ast.specs.declared.syntax.Spec.{Spec}
-use Rattle.pbs_rules.specs.Naming.{inputs_of, input_names}
+use Rattle.pbs_names.specs.Naming.{inputs_of, input_names}
 use Rattle.pbs_check.specs.Declaring.{Twice, declared_names, listed, Rule5, DeclaredTwice, ListedTwice, Rule11}
 use Rattle.pbs_check.specs.Declaring.{TooManyInputs, TooManyActions, TooManyLevels}
 use Rattle.pbs_check.specs.Least.{span_le, IsLeast, least_of, least_by}

@@ -8,12 +8,12 @@ use Rattle.pbs_ast.specs.declared.syntax.Expr.{Expr}
 use Rattle.pbs_ast.specs.declared.syntax.Prod.{Prod}
 use Rattle.pbs_ast.specs.declared.syntax.SpecTerm.{SpecTerm}
 use Rattle.pbs_ast.specs.declared.syntax.Kind as kind
-use Rattle.pbs_rules.specs.Naming.{body_of}
-use Rattle.pbs_rules.specs.Forms as forms
-use Rattle.pbs_rules.specs.Forms.{Form, form, form_of, parts}
-use Rattle.pbs_rules.specs.Reach.{Itself, InPart, InProd, HasTerminal, HasAction, HasScope}
-use Rattle.pbs_rules.specs.Reach.{MayBeEmpty, EmptyMay, ActionMay, AllMay, SomeMay, NoneMay, StarMay, PlusMay, OptMay}
-use Rattle.pbs_rules.specs.Reach.{HoldMay, ScopeMay, NameMay, UnknownMay, NoCopyMay, CopiesMay}
+use Rattle.pbs_names.specs.Naming.{body_of}
+use Rattle.pbs_names.specs.Forms as forms
+use Rattle.pbs_names.specs.Forms.{Form, form, form_of, parts}
+use Rattle.pbs_names.specs.Reach.{Itself, InPart, InProd, HasTerminal, HasAction, HasScope}
+use Rattle.pbs_names.specs.Reach.{MayBeEmpty, EmptyMay, ActionMay, AllMay, SomeMay, NoneMay, StarMay, PlusMay, OptMay}
+use Rattle.pbs_names.specs.Reach.{HoldMay, ScopeMay, NameMay, UnknownMay, NoCopyMay, CopiesMay}
 use Rattle.pbs_check.specs.declared.facts.Facts.{Facts}
 use Rattle.pbs_check.specs.inner.Facts.{fact, after, either, or_empty, scope_of, choice_of, kind_facts, expr_facts}
 use Rattle.pbs_check.specs.inner.Facts.{all_facts}

@@ -8,7 +8,7 @@ use Rattle.std.proofs.lemmas.List.Elements.{Contains-append_cases, Contains-appe
 use Rattle.pbs_ast.specs.declared.syntax.Expr.{Expr}
 use Rattle.pbs_ast.specs.declared.syntax.Prod.{Prod}
 use Rattle.pbs_ast.specs.declared.syntax.Kind.{Seq, Choice}
-use Rattle.pbs_rules.specs.Forms.{form, form_of}
+use Rattle.pbs_names.specs.Forms.{form, form_of}
 use Rattle.pbs_check.specs.declared.graph.Link.{Link}
 use Rattle.pbs_check.specs.inner.Links.{own_links, links_in, links_of, HasNext, By}
 use Rattle.pbs_check.specs.inner.Walking.{below_kind, inside, inside_all}

@@ -7,9 +7,9 @@ use Rattle.pbs_ast.specs.declared.syntax.Expr.{Expr}
 use Rattle.pbs_ast.specs.declared.syntax.Prod.{Prod}
 use Rattle.pbs_ast.specs.declared.syntax.Spec.{Spec}
 use Rattle.pbs_ast.specs.declared.syntax.Kind as kind
-use Rattle.pbs_rules.specs.Forms as forms
-use Rattle.pbs_rules.specs.Forms.{Form, form, form_of, parts, Stands, OfMain, OfProd}
-use Rattle.pbs_rules.specs.Naming.{index_of, prod_names}
+use Rattle.pbs_names.specs.Forms as forms
+use Rattle.pbs_names.specs.Forms.{Form, form, form_of, parts, Stands, OfMain, OfProd}
+use Rattle.pbs_names.specs.Naming.{index_of, prod_names}
 use Rattle.pbs_check.specs.declared.facts.Facts.{Facts}
 use Rattle.pbs_check.specs.declared.uses.Wanted.TheVariants as wanted
 use Rattle.pbs_check.specs.inner.Facts.{after, either, or_empty, scope_of, choice_of, kind_facts, expr_facts, all_facts}

@@ -12,7 +12,7 @@ use Rattle.pbs_base.specs.Words.{AreDifferent}
 use Rattle.pbs_ast.specs.declared.syntax.Decl.{Decl}
 use Rattle.pbs_ast.specs.declared.syntax.Prod.{Prod}
 use Rattle.pbs_ast.specs.declared.syntax.Spec.{Spec}
-use Rattle.pbs_rules.specs.Naming.{inputs_of, input_names, action_names, prod_names, bit_names}
+use Rattle.pbs_names.specs.Naming.{inputs_of, input_names, action_names, prod_names, bit_names}
 use Rattle.pbs_check.specs.declared.named.Named.{Named}
 use Rattle.pbs_check.specs.Checked.{IsBroken, By5, By11, IsFirst, IsUnbroken}
 use Rattle.pbs_check.specs.Declaring.{named, declared_by, declared_inputs, declared_actions, declared_levels}

@@ -11,7 +11,7 @@ pub mod LawLemmas
 pub mod LearnLemmas
 pub mod LeastLemmas
 pub mod LimitRules
-pub mod MovingRules
+pub mod StarScopeRules
 pub mod NamedLemmas
 pub mod RecursionLemmas
 pub mod RoundLemmas

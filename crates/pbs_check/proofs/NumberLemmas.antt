@@ -12,9 +12,9 @@ use Rattle.pbs_base.specs.Words.{AreDifferent}
 use Rattle.pbs_ast.specs.declared.syntax.Expr.{Expr}
 use Rattle.pbs_ast.specs.declared.syntax.Prod.{Prod}
 use Rattle.pbs_ast.specs.declared.syntax.Spec.{Spec}
-use Rattle.pbs_rules.specs.Forms as forms
-use Rattle.pbs_rules.specs.Forms.{Form, form, parts}
-use Rattle.pbs_rules.specs.Naming.{index_of, prod_names, body_of}
+use Rattle.pbs_names.specs.Forms as forms
+use Rattle.pbs_names.specs.Forms.{Form, form, parts}
+use Rattle.pbs_names.specs.Naming.{index_of, prod_names, body_of}
 use Rattle.pbs_check.specs.declared.graph.Link.{Link}
 use Rattle.pbs_check.specs.Least.{IsLeast}
 use Rattle.pbs_check.specs.inner.Links as links

@@ -10,8 +10,8 @@ use Rattle.pbs_base.specs.declared.refusal.Span.{Span}
 use Rattle.pbs_ast.specs.declared.syntax.Expr.{Expr}
 use Rattle.pbs_ast.specs.declared.syntax.Prod.{Prod}
 use Rattle.pbs_ast.specs.declared.syntax.Spec.{Spec}
-use Rattle.pbs_rules.specs.Naming.{body_of}
-use Rattle.pbs_rules.specs.Forms.{Stands, OfMain, OfProd, OfPart}
+use Rattle.pbs_names.specs.Naming.{body_of}
+use Rattle.pbs_names.specs.Forms.{Stands, OfMain, OfProd, OfPart}
 use Rattle.pbs_check.specs.declared.facts.Facts.{Facts}
 use Rattle.pbs_check.specs.declared.uses.Tables.{Tables}
 use Rattle.pbs_check.specs.inner.Facts.{known_of, expr_facts}

@@ -9,7 +9,7 @@ use Rattle.pbs_ast.specs.declared.syntax.Prod.{Prod}
 use Rattle.pbs_ast.specs.declared.syntax.Spec.{Spec}
 use Rattle.pbs_ast.specs.declared.syntax.Kind as kind
 use Rattle.pbs_ast.specs.declared.syntax.Kind.{Row_of-Expr, end_of-Expr, more_of-Expr, items-the_row-Expr}
-use Rattle.pbs_rules.specs.Forms.{form, form_of, parts, expr_of, Stands, OfMain, OfProd, OfPart}
+use Rattle.pbs_names.specs.Forms.{form, form_of, parts, expr_of, Stands, OfMain, OfProd, OfPart}
 use Rattle.pbs_check.specs.inner.Walking.{below, below_kind, inside, inside_all, inside_prods}
 use Rattle.pbs_check.proofs.LeastLemmas.{first_item, later_item, no_item, item_cases}
 use Rattle.pbs_check.proofs.WalkLemmas.{row_inside_is}

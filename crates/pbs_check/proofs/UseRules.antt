@@ -8,10 +8,10 @@ use Rattle.pbs_ast.specs.declared.syntax.Expr.{Expr}
 use Rattle.pbs_ast.specs.declared.syntax.Level.{Level}
 use Rattle.pbs_ast.specs.declared.syntax.Set.{Set}
 use Rattle.pbs_ast.specs.declared.syntax.Spec.{Spec}
-use Rattle.pbs_rules.specs.Naming.{input_names, action_names, prod_names}
-use Rattle.pbs_rules.specs.Numbers.{number_in}
-use Rattle.pbs_rules.specs.Forms as forms
-use Rattle.pbs_rules.specs.Forms.{Form, form, Stands}
+use Rattle.pbs_names.specs.Naming.{input_names, action_names, prod_names}
+use Rattle.pbs_names.specs.Numbers.{number_in}
+use Rattle.pbs_names.specs.Forms as forms
+use Rattle.pbs_names.specs.Forms.{Form, form, Stands}
 use Rattle.pbs_check.specs.declared.named.Named.{Named}
 use Rattle.pbs_check.specs.declared.uses.Wanted.{Wanted}
 use Rattle.pbs_check.specs.declared.uses.Wanted.TheVariants as wanted

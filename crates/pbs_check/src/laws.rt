@@ -5,7 +5,7 @@ ghost use Rattle.pbs_base.specs.declared.refusal.Span.{Span};
 ghost use Rattle.pbs_base.specs.Words.{AreDifferent};
 ghost use Rattle.pbs_ast.specs.Bare.{bare};
 ghost use Rattle.pbs_ast.specs.declared.syntax.Spec.{Spec};
-ghost use Rattle.pbs_rules.specs.Naming.{input_names, action_names};
+ghost use Rattle.pbs_names.specs.Naming.{input_names, action_names};
 ghost use Rattle.pbs_check.specs.Checked.{Checks, IsBroken, IsFirst, IsUnbroken};
 ghost use Rattle.pbs_check.specs.declared.failure.Check.{Check};
 

@@ -8,7 +8,7 @@ ghost use Rattle.pbs_check.specs.inner.Twices.{first_twice, later_of};
 use crate::least::{earlier, later, least_of};
 use pbs_ast::{Decl, Decls, Levels, Prods, Sets, Spec};
 use pbs_base::{Memory, Span, Word};
-use pbs_rules::bit_word;
+use pbs_names::bit_word;
 use std::alloc::Global;
 use std::collections::HashMap;
 

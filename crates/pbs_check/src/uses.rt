@@ -1,7 +1,7 @@
 // Names that are used, comparisons and repetitions.
 ghost use Rattle.std.specs.Prelude.{◌≡◌, ◌^◌, nat_le};
 ghost use Rattle.std.specs.Option.{is_some};
-ghost use Rattle.pbs_rules.specs.Numbers.{number_in};
+ghost use Rattle.pbs_names.specs.Numbers.{number_in};
 ghost use Rattle.pbs_check.specs.Least.{least_by};
 ghost use Rattle.pbs_check.specs.Using.{leaves};
 ghost use Rattle.pbs_check.specs.inner.Walking.{kind_numbers, name_broken, bus_width};
@@ -13,7 +13,7 @@ use crate::facts::{Known, expr_facts};
 use crate::least::least_of;
 use pbs_ast::{Decls, Expr, Items, Kind, SpecTerm, TermItems};
 use pbs_base::{Span, Word};
-use pbs_rules::Numbers;
+use pbs_names::Numbers;
 
 /// What a use wants its name to be.
 #[derive(Clone, Copy)]

@@ -4,7 +4,7 @@
 ghost use Rattle.std.specs.Prelude.{◌≡◌, ℕ, List, None};
 ghost use Rattle.pbs_ast.specs.declared.syntax.Spec.{Spec};
 ghost use Rattle.pbs_text.specs.Answers.{StandsFor};
-ghost use Rattle.pbs_rules.specs.Naming.{action_names, input_names};
+ghost use Rattle.pbs_names.specs.Naming.{action_names, input_names};
 ghost use Rattle.pbs_check.specs.Checked.{IsUnbroken};
 ghost use Rattle.pbs_expand.specs.Expanded.{expanded, refusal};
 ghost use Rattle.net_core.specs.Circuits.{Circuit, IsCircuit};

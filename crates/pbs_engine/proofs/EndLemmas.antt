@@ -7,7 +7,7 @@ use Rattle.pbs_base.specs.declared.refusal.Refusal.{Refusal}
 use Rattle.pbs_base.specs.Outside.{ShelfState, SlotState, SinkState, content_of}
 use Rattle.pbs_base.proofs.WrittenLemmas.{append_known-nil}
 use Rattle.pbs_ast.specs.declared.syntax.Spec.{Spec}
-use Rattle.pbs_rules.specs.Naming.{action_names}
+use Rattle.pbs_names.specs.Naming.{action_names}
 use Rattle.net_core.specs.Rows.{Row}
 use Rattle.net_core.specs.Circuits.{Circuit}
 use Rattle.net_core.specs.Runs.{output_value}

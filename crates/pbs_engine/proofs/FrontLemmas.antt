@@ -3,7 +3,7 @@ use Rattle.std.proofs.Common.{◌≤◌, ℕ, List, length, Ok, Err}
 use Rattle.pbs_base.specs.declared.refusal.Refusal.{Refusal}
 use Rattle.pbs_ast.specs.declared.syntax.Spec.{Spec}
 use Rattle.pbs_ast.specs.Trees.{tree_of}
-use Rattle.pbs_rules.specs.Naming.{input_names}
+use Rattle.pbs_names.specs.Naming.{input_names}
 use Rattle.pbs_text.specs.Answers.{StandsFor}
 use Rattle.pbs_ast.specs.Bare.{bare}
 use Rattle.pbs_check.specs.Checked.{IsUnbroken, By9, By10}

@@ -13,9 +13,9 @@ use Rattle.pbs_ast.specs.declared.syntax.Kind.{Row_of-Expr, end_of-Expr, more_of
 use Rattle.pbs_ast.specs.declared.syntax.Kind.{items_hidden-the_row-Expr-0}
 use Rattle.pbs_ast.specs.declared.syntax.Kind.TheBlock.{hidden-the_row-Expr-0}
 use Rattle.pbs_ast.specs.Bare.{bare_term, bare_kind, bare_exprs, bare_expr, bare_prod}
-use Rattle.pbs_rules.specs.Naming.{body_of}
-use Rattle.pbs_rules.specs.Forms as forms
-use Rattle.pbs_rules.specs.Forms.{Form, form, expr_of}
+use Rattle.pbs_names.specs.Naming.{body_of}
+use Rattle.pbs_names.specs.Forms as forms
+use Rattle.pbs_names.specs.Forms.{Form, form, expr_of}
 use Rattle.pbs_expand.specs.declared.parts.Pairing.{Pairing}
 use Rattle.pbs_expand.specs.declared.parts.Pairing.TheVariants.{Sequence, Choice}
 use Rattle.pbs_expand.specs.Parts as nodes
@@ -23,7 +23,7 @@ use Rattle.pbs_expand.specs.Parts.{Part, Whole, Run, Nothing, Starred, Copies, U
 use Rattle.pbs_expand.specs.Parts.{form_shape, named_shape, repeat_shape, listed_shape, halves, run_part, run_span}
 use Rattle.pbs_expand.specs.Parts.{copies_part, copies_shape, upto_shape, start_at, end_at}
 use Rattle.pbs_expand.specs.Parts.{stripped, stripped_from, stripped_row}
-use Rattle.pbs_rules.proofs.BareForms.{bare_form, form_bare, body_bare}
+use Rattle.pbs_names.proofs.BareForms.{bare_form, form_bare, body_bare}
 
 abbrev pub bare_part : Part → Part
 bare_part (Whole e) = Whole (bare_expr e)

@@ -10,8 +10,8 @@ use Rattle.pbs_ast.specs.Sound.{tree_depth, inputs_below, actions_below}
 use Rattle.pbs_base.specs.Entries.{bit}
 use Rattle.pbs_ast.specs.declared.syntax.Decl.{Decl}
 use Rattle.pbs_ast.specs.declared.syntax.Spec.{Spec}
-use Rattle.pbs_rules.specs.Naming.{index_of, input_names, action_names, bus_of}
-use Rattle.pbs_rules.specs.declared.buses.Bus.{Bus}
+use Rattle.pbs_names.specs.Naming.{index_of, input_names, action_names, bus_of}
+use Rattle.pbs_names.specs.declared.buses.Bus.{Bus}
 use Rattle.pbs_ast.specs.declared.syntax.SpecTerm as terms
 use Rattle.pbs_ast.specs.declared.syntax.SpecTerm.{Row_of-SpecTerm, end_of-SpecTerm, more_of-SpecTerm}
 use Rattle.pbs_expand.specs.declared.parts.Pairing.TheVariants.{Sequence, Choice}
@@ -25,7 +25,7 @@ use Rattle.pbs_expand.specs.Walks.{Walk, Beyond, Empty, Terminal, Action, Name, 
 use Rattle.pbs_expand.specs.Walks.{action_walk, complete}
 use Rattle.pbs_expand.specs.Written.{joined, both, empty_term, written, written_row, named_term, literals, equal_term}
 use Rattle.pbs_expand.specs.Visits.{Visit, visits, after_visits, first_over, numbered}
-use Rattle.pbs_rules.proofs.NameLemmas.{number_within, bus_within}
+use Rattle.pbs_names.proofs.NameLemmas.{number_within, bus_within}
 use Rattle.pbs_expand.proofs.VisitLaws.{or_else, first_over-append}
 use Rattle.pbs_expand.proofs.Limits.{both_true, true_both}
 

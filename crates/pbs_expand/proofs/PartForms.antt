@@ -8,12 +8,12 @@ use Rattle.std.proofs.lemmas.List.{take-append-drop}
 use Rattle.pbs_base.specs.declared.refusal.Span.{Span}
 use Rattle.pbs_ast.specs.declared.syntax.Expr.{Expr}
 use Rattle.pbs_ast.specs.declared.syntax.Prod.{Prod}
-use Rattle.pbs_rules.specs.Naming.{body_of}
-use Rattle.pbs_rules.specs.Forms as forms
-use Rattle.pbs_rules.specs.Forms.{Form, form, parts, Stands, OfMain, OfProd, OfPart}
-use Rattle.pbs_rules.specs.Reach.{Itself, InPart, InProd}
-use Rattle.pbs_rules.specs.Reach.{MayBeEmpty, EmptyMay, ActionMay, AllMay, SomeMay, NoneMay, StarMay, PlusMay, OptMay}
-use Rattle.pbs_rules.specs.Reach.{HoldMay, ScopeMay, NameMay, UnknownMay, NoCopyMay, CopiesMay}
+use Rattle.pbs_names.specs.Naming.{body_of}
+use Rattle.pbs_names.specs.Forms as forms
+use Rattle.pbs_names.specs.Forms.{Form, form, parts, Stands, OfMain, OfProd, OfPart}
+use Rattle.pbs_names.specs.Reach.{Itself, InPart, InProd}
+use Rattle.pbs_names.specs.Reach.{MayBeEmpty, EmptyMay, ActionMay, AllMay, SomeMay, NoneMay, StarMay, PlusMay, OptMay}
+use Rattle.pbs_names.specs.Reach.{HoldMay, ScopeMay, NameMay, UnknownMay, NoCopyMay, CopiesMay}
 use Rattle.pbs_expand.specs.declared.parts.Pairing.{Pairing}
 use Rattle.pbs_expand.specs.declared.parts.Pairing.TheVariants.{Sequence, Choice}
 use Rattle.pbs_expand.specs.Parts.{Part, Whole, Run, Nothing, Starred, Copies, UpTo, Further, Pair, shape, form_shape}

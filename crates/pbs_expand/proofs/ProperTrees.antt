@@ -5,7 +5,7 @@ use Rattle.pbs_base.specs.declared.refusal.Span.{Span}
 use Rattle.pbs_ast.specs.Trees.{Tree, nullable, has_terminal, is_plain}
 use Rattle.pbs_ast.specs.Sound.{IsProper, stars_move, scopes_right}
 use Rattle.pbs_ast.specs.declared.syntax.Spec.{Spec}
-use Rattle.pbs_rules.specs.Naming.{index_of, action_names}
+use Rattle.pbs_names.specs.Naming.{index_of, action_names}
 use Rattle.pbs_expand.specs.declared.parts.Pairing.{Pairing}
 use Rattle.pbs_expand.specs.declared.parts.Pairing.TheVariants.{Sequence, Choice}
 use Rattle.pbs_expand.specs.declared.build.Counters.{Counters}
@@ -16,7 +16,7 @@ use Rattle.pbs_expand.specs.Written.{written}
 use Rattle.pbs_expand.specs.Visits.{visits, after_visits, numbered}
 use Rattle.pbs_expand.specs.Expanded.{nothing_yet, main_walk, expanded, over_limit}
 use Rattle.pbs_expand.specs.Ready.{IsReady}
-use Rattle.pbs_rules.specs.Forms.{OfMain}
+use Rattle.pbs_names.specs.Forms.{OfMain}
 use Rattle.pbs_expand.proofs.PartWords.{PartMay, ShapeMay, PartBusy, ShapeBusy, PartHas, ShapeHas, PartStands}
 use Rattle.pbs_expand.proofs.PartWords.{ShapeIsRight}
 use Rattle.pbs_expand.proofs.PartForms.{may_part, busy_part}

@@ -11,8 +11,8 @@ use Rattle.pbs_ast.specs.Repeats.{Copies, Copy, InTurn, Either, copies_to, exact
 use Rattle.pbs_ast.specs.Repeats.{no_spot}
 use Rattle.pbs_ast.specs.declared.syntax.Expr.{Expr}
 use Rattle.pbs_ast.specs.declared.syntax.Spec.{Spec}
-use Rattle.pbs_rules.specs.Forms.{form, expr_of}
-use Rattle.pbs_rules.specs.Forms as forms
+use Rattle.pbs_names.specs.Forms.{form, expr_of}
+use Rattle.pbs_names.specs.Forms as forms
 use Rattle.pbs_expand.specs.declared.parts.Pairing.TheVariants.{Sequence, Choice}
 use Rattle.pbs_expand.specs.declared.build.Counters.{Counters}
 use Rattle.pbs_expand.specs.Counting.{sum_of, name_cost, node_cost, hold_cost, scope_cost}

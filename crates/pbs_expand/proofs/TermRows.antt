@@ -12,8 +12,8 @@ use Rattle.pbs_expand.specs.declared.terms.Connective.{Connective}
 use Rattle.pbs_expand.specs.declared.terms.Connective.TheVariants.{AndOf, OrOf}
 use Rattle.pbs_expand.specs.declared.terms.Written.{Written}
 use Rattle.pbs_expand.specs.declared.terms.Many.{Many}
-use Rattle.pbs_rules.specs.Naming.{bus_of}
-use Rattle.pbs_rules.specs.declared.buses.Bus.{Bus}
+use Rattle.pbs_names.specs.Naming.{bus_of}
+use Rattle.pbs_names.specs.declared.buses.Bus.{Bus}
 use Rattle.pbs_expand.specs.Written.{joined, written, written_row, literals, equal_term}
 use Rattle.pbs_expand.specs.inner.WrittenTerms.{IsWritten, AreWritten, AreLiterals, weight}
 use Rattle.pbs_expand.proofs.Joins.{joined_nodes}

@@ -6,8 +6,8 @@ use Rattle.bool_terms.specs.Terms.{Term, Const, Input, Not, And, Or}
 use Rattle.pbs_ast.specs.declared.syntax.Decl.{Decl}
 use Rattle.pbs_ast.specs.declared.syntax.SpecTerm as terms
 use Rattle.pbs_ast.specs.declared.syntax.SpecTerm.{Row_of-SpecTerm, end_of-SpecTerm, more_of-SpecTerm}
-use Rattle.pbs_rules.specs.declared.buses.Bus.{Bus}
-use Rattle.pbs_rules.specs.Naming.{input_names, index_of, bus_of}
+use Rattle.pbs_names.specs.declared.buses.Bus.{Bus}
+use Rattle.pbs_names.specs.Naming.{input_names, index_of, bus_of}
 use Rattle.pbs_expand.specs.declared.terms.Connective.{Connective}
 use Rattle.pbs_expand.specs.declared.terms.Connective.TheVariants.{AndOf, OrOf}
 

@@ -6,9 +6,9 @@ use Rattle.pbs_base.specs.declared.refusal.Span.{Span}
 use Rattle.pbs_ast.specs.declared.syntax.Expr.{Expr}
 use Rattle.pbs_ast.specs.declared.syntax.Prod.{Prod}
 use Rattle.pbs_ast.specs.declared.syntax.Spec.{Spec}
-use Rattle.pbs_rules.specs.Naming.{body_of}
-use Rattle.pbs_rules.specs.Forms.{Form, Name, form, Stands}
-use Rattle.pbs_rules.specs.Reach.{HasTerminal, HasAction, HasScope, MayBeEmpty}
+use Rattle.pbs_names.specs.Naming.{body_of}
+use Rattle.pbs_names.specs.Forms.{Form, Name, form, Stands}
+use Rattle.pbs_names.specs.Reach.{HasTerminal, HasAction, HasScope, MayBeEmpty}
 use Rattle.pbs_check.specs.declared.facts.Facts.{Facts}
 use Rattle.pbs_check.specs.declared.uses.Tables.{Tables}
 use Rattle.pbs_check.specs.inner.Facts.{known_of, expr_facts}

@@ -1,7 +1,7 @@
 use Rattle.std.proofs.Common.{◌≤◌, length, arith}
 use Rattle.std.proofs.lemmas.List.{length-map}
 use Rattle.pbs_ast.specs.declared.syntax.Decl.{Decl}
-use Rattle.pbs_rules.specs.Naming.{input_names, action_names}
+use Rattle.pbs_names.specs.Naming.{input_names, action_names}
 use Rattle.pbs_expand.specs.Expanded.{expanded}
 use Rattle.pbs_emit.proofs.Counted.{small}
 use Rattle.pbs_emit.proofs.Emitting.{Written, stands}
