@@ -1,6 +1,6 @@
 -- Expressions that differ by where their boxes lie alone, and what holds of both.
-use Rattle.std.proofs.Common.{◌≡◌, ℕ, zero, suc, List, [], ◌∷◌, map, Option, Some, None}
-use Rattle.std.proofs.Common.{refl, sym, ap, ap₂, subst, ◌∙◌, arith}
+use Rattle.std.proofs.Common.{◌≡◌, ℕ, zero, suc, List, [], ◌∷◌, map, Option, Some, None, refl, sym, ap, ap₂, subst, ◌∙◌}
+use Rattle.std.proofs.Common.{arith}
 use Rattle.std.specs.Prelude.{Contains}
 use Rattle.std.specs.Option.{option_map}
 use Rattle.pbs_base.specs.declared.refusal.Span.{Span}
@@ -9,11 +9,11 @@ use Rattle.pbs_ast.specs.declared.syntax.Expr.{Expr}
 use Rattle.pbs_ast.specs.declared.syntax.Prod.{Prod}
 use Rattle.pbs_ast.specs.Bare.{bare_term, bare_expr, bare_prod}
 use Rattle.pbs_names.specs.Naming.{body_of}
-use Rattle.pbs_names.specs.Forms.{Form, form, parts}
-use Rattle.pbs_names.specs.Forms.{Empty, Terminal, Action, Seq, Choice, Star, Plus, Opt, Hold, Scope, Name, Repeat}
-use Rattle.pbs_names.specs.Reach.{LiesIn, Itself, InPart, InProd}
-use Rattle.pbs_names.specs.Reach.{MayBeEmpty, EmptyMay, ActionMay, AllMay, SomeMay, NoneMay, StarMay, PlusMay, OptMay}
-use Rattle.pbs_names.specs.Reach.{HoldMay, ScopeMay, NameMay, UnknownMay, NoCopyMay, CopiesMay}
+use Rattle.pbs_names.specs.Forms.{Form, form, parts, Empty, Terminal, Action, Seq, Choice, Star, Plus, Opt, Hold, Scope}
+use Rattle.pbs_names.specs.Forms.{Name, Repeat}
+use Rattle.pbs_names.specs.Reach.{LiesIn, Itself, InPart, InProd, MayBeEmpty, EmptyMay, ActionMay, AllMay, SomeMay}
+use Rattle.pbs_names.specs.Reach.{NoneMay, StarMay, PlusMay, OptMay, HoldMay, ScopeMay, NameMay, UnknownMay, NoCopyMay}
+use Rattle.pbs_names.specs.Reach.{CopiesMay}
 use Rattle.pbs_names.proofs.BareForms.{bare_form, form_bare, body_bare}
 use Rattle.pbs_ast.proofs.BareTwice.{term_twice, expr_twice, all_twice}
 

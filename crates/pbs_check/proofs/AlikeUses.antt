@@ -1,10 +1,9 @@
 -- What stands in a specification, and the names that are used there, whatever the places of the boxes.
 use Rattle.std.proofs.Common.{◌≡◌, ℕ, List, [], ◌∷◌, ◌++◌, map, refl, sym, ap, ap₂, subst, ◌∙◌}
+use Rattle.pbs_check.proofs.WalkLemmas.{list_leaves}
 use Rattle.pbs_base.specs.declared.refusal.Span.{Span}
 use Rattle.pbs_ast.specs.declared.syntax.SpecTerm as terms
 use Rattle.pbs_ast.specs.declared.syntax.SpecTerm.{SpecTerm, Row_of-SpecTerm, end_of-SpecTerm, more_of-SpecTerm}
-use Rattle.pbs_ast.specs.declared.syntax.SpecTerm.{items-the_row-SpecTerm, items_hidden-the_row-SpecTerm-0}
-use Rattle.pbs_ast.specs.declared.syntax.SpecTerm.TheBlock.{hidden-the_row-SpecTerm-0}
 use Rattle.pbs_ast.specs.declared.syntax.Expr.{Expr}
 use Rattle.pbs_ast.specs.declared.syntax.Prod.{Prod}
 use Rattle.pbs_ast.specs.declared.syntax.Spec.{Spec}
@@ -22,20 +21,13 @@ use Rattle.pbs_check.proofs.Alike.{FormsAlike, Empties, Terminals, Actions, Seqs
 use Rattle.pbs_check.proofs.Alike.{Scopes, Names, Repeats, forms_alike, parts_alike, item_alike, body_alike}
 
 -- ---- the leaves of terms
-leaves_of_row : (n : _) (row : Row_of-SpecTerm n) → row_leaves row ≡ all_leaves (items-the_row-SpecTerm n row)
-leaves_of_row n end_of-SpecTerm = refl
-leaves_of_row n (more_of-SpecTerm t rest) = ap (λ ls. leaves t ++ ls) (leaves_of_row _ rest)
-
-leaves_of_list : (xs : List SpecTerm) → row_leaves (hidden-the_row-SpecTerm-0 xs) ≡ all_leaves xs
-leaves_of_list xs = leaves_of_row _ (hidden-the_row-SpecTerm-0 xs) ∙ ap all_leaves (items_hidden-the_row-SpecTerm-0 xs)
-
 mutual
   leaves_bare : (t : SpecTerm) → leaves (bare_term t) ≡ leaves t
   leaves_bare (terms.Const b) = refl
   leaves_bare (terms.Name word at) = refl
   leaves_bare (terms.Not' _ t) = leaves_bare t
-  leaves_bare (terms.All' n row) = leaves_of_list (bare_terms row) ∙ row_leaves_bare _ row
-  leaves_bare (terms.Any' n row) = leaves_of_list (bare_terms row) ∙ row_leaves_bare _ row
+  leaves_bare (terms.All' n row) = list_leaves (bare_terms row) ∙ row_leaves_bare _ row
+  leaves_bare (terms.Any' n row) = list_leaves (bare_terms row) ∙ row_leaves_bare _ row
   leaves_bare (terms.Equal word at n to) = refl
 
   row_leaves_bare : (n : _) (row : Row_of-SpecTerm n) → all_leaves (bare_terms row) ≡ row_leaves row

@@ -13,7 +13,7 @@ use Rattle.std.specs.Option.{option_map}
 use Rattle.std.specs.Cmp.Lexicographic.{pointwise}
 use Rattle.pbs_names.specs.Naming.{bus_of, bus_from, inputs_of}
 use Rattle.pbs_names.specs.Forms as forms
-use Rattle.pbs_names.specs.Forms.{Form, form, Stands}
+use Rattle.pbs_names.specs.Forms.{Form, form}
 use Rattle.pbs_check.specs.declared.uses.Look.TheVariants as looks
 use Rattle.pbs_check.specs.declared.uses.Tables.{Tables}
 use Rattle.pbs_check.specs.Least.{span_le, IsLeast, least_by}

@@ -10,8 +10,8 @@ use Rattle.pbs_ast.specs.declared.syntax.Spec.{Spec}
 use Rattle.pbs_ast.specs.Bare.{bare, bare_expr, bare_prod}
 use Rattle.pbs_names.specs.Forms.{Form, Star, Plus, Scope, Terminal, Action, Repeat, form, Stands}
 use Rattle.pbs_names.specs.Reach.{LiesIn, MayBeEmpty, HasTerminal, HasAction, HasScope}
-use Rattle.pbs_names.specs.StarsAndScopes.{Rule9, EmptyStar, EmptyPlus}
-use Rattle.pbs_names.specs.StarsAndScopes.{Rule10, EmptyTrap, ActionInTrap, ScopeInTrap, NoTerminal}
+use Rattle.pbs_names.specs.StarsAndScopes.{Rule9, EmptyStar, EmptyPlus, Rule10, EmptyTrap, ActionInTrap, ScopeInTrap}
+use Rattle.pbs_names.specs.StarsAndScopes.{NoTerminal}
 use Rattle.pbs_check.specs.declared.failure.Check.{Check}
 use Rattle.pbs_check.specs.declared.failure.Check.TheVariants as answers
 use Rattle.pbs_check.specs.declared.named.Named.{Named}

@@ -2,6 +2,7 @@
 use Rattle.std.proofs.Common.{◌≡◌, ◌⊎◌, inl, inr, Bool, true, false, not, ◌||◌, List, [], ◌∷◌, Option, Some, None, refl}
 use Rattle.std.proofs.Common.{sym, subst}
 use Rattle.std.specs.Prelude.{Contains, if◌then◌else◌}
+use Rattle.pbs_ast.proofs.Items.{first_item, later_item}
 use Rattle.pbs_base.specs.declared.refusal.Span.{Span}
 use Rattle.pbs_ast.specs.declared.syntax.Decl.{Decl}
 use Rattle.pbs_ast.specs.declared.syntax.Expr.{Expr}
@@ -23,8 +24,7 @@ use Rattle.pbs_check.specs.inner.Walking.{level_broken}
 use Rattle.pbs_check.specs.inner.Stages.{found_in}
 use Rattle.pbs_check.specs.inner.Truth.{FactsAre, IsBusy, Decided, IsKnown}
 use Rattle.pbs_check.proofs.FactTruth.{either_way}
-use Rattle.pbs_check.proofs.LeastLemmas.{span_refl, least_either, least_by_is, least_by_in, first_item, later_item}
-use Rattle.pbs_check.proofs.LeastLemmas.{OneOf, ByItem}
+use Rattle.pbs_check.proofs.LeastLemmas.{span_refl, least_either, least_by_is, least_by_in, OneOf, ByItem}
 use Rattle.pbs_check.proofs.LimitRules.{Nothing, nothing_is, NoneListed}
 use Rattle.pbs_check.proofs.StandLemmas.{all_exprs, exprs_stand, stands_listed}
 

@@ -1,7 +1,7 @@
 // Names with their places, and those that stand twice.
 ghost use Rattle.std.specs.Prelude.{◌≡◌, ◌++◌, IfOk, OnOk, Some};
-ghost use Rattle.pbs_check.specs.Declaring.{named, declared_by, declared_inputs, declared_actions};
-ghost use Rattle.pbs_check.specs.Declaring.{declared_levels, declared_prods, declared_names, listed};
+ghost use Rattle.pbs_check.specs.Declaring.{named, declared_by, declared_inputs, declared_actions, declared_levels};
+ghost use Rattle.pbs_check.specs.Declaring.{declared_prods, declared_names, listed};
 ghost use Rattle.pbs_check.specs.Least.{least_of};
 ghost use Rattle.pbs_check.specs.inner.Twices.{first_twice, later_of};
 

@@ -4,9 +4,8 @@ ghost use Rattle.std.specs.Option.{is_some};
 ghost use Rattle.pbs_names.specs.Numbers.{number_in};
 ghost use Rattle.pbs_check.specs.Least.{least_by};
 ghost use Rattle.pbs_check.specs.Using.{leaves};
-ghost use Rattle.pbs_check.specs.inner.Walking.{kind_numbers, name_broken, bus_width};
-ghost use Rattle.pbs_check.specs.inner.Walking.{too_large, equal_broken, leaf_broken, all_leaves};
-ghost use Rattle.pbs_check.specs.inner.Walking.{copies_broken, star_broken, scope_broken};
+ghost use Rattle.pbs_check.specs.inner.Walking.{kind_numbers, name_broken, bus_width, too_large, equal_broken};
+ghost use Rattle.pbs_check.specs.inner.Walking.{leaf_broken, all_leaves, copies_broken, star_broken, scope_broken};
 ghost use Rattle.pbs_check.specs.inner.Walking.{own_broken, inside, inside_all, below};
 
 use crate::facts::{Known, expr_facts};

@@ -1,7 +1,7 @@
 -- What is visited, and the node of it, with every box at one place.
-use Rattle.std.proofs.Common.{◌≡◌, ℕ, ◌+◌, ◌-◌, ◌/◌, Bool, true, false, Option, Some, None, nat_eq, nat_le}
-use Rattle.std.proofs.Common.{List, [], ◌∷◌, map, length, take, drop, slice_get, refl, ap, ap₂, ◌∙◌}
-use Rattle.std.specs.Prelude.{◌==◌, if◌then◌else◌}
+use Rattle.std.proofs.Common.{◌≡◌, ℕ, ◌+◌, ◌-◌, ◌/◌, Bool, true, false, Option, Some, None, nat_eq, nat_le, List, []}
+use Rattle.std.proofs.Common.{◌∷◌, map, length, take, drop, slice_get, refl, ap, ap₂, ◌∙◌}
+use Rattle.std.specs.Prelude.{if◌then◌else◌}
 use Rattle.std.specs.Option.{option_map}
 use Rattle.std.proofs.lemmas.List.{length-map, take-map, drop-map}
 use Rattle.std.proofs.lemmas.Option.{slice_get-map}
@@ -21,8 +21,8 @@ use Rattle.pbs_expand.specs.declared.parts.Pairing.TheVariants.{Sequence, Choice
 use Rattle.pbs_expand.specs.Parts as nodes
 use Rattle.pbs_expand.specs.Parts.{Part, Whole, Run, Nothing, Starred, Copies, UpTo, Further, Shape, shape, span_of}
 use Rattle.pbs_expand.specs.Parts.{form_shape, named_shape, repeat_shape, listed_shape, halves, run_part, run_span}
-use Rattle.pbs_expand.specs.Parts.{copies_part, copies_shape, upto_shape, start_at, end_at}
-use Rattle.pbs_expand.specs.Parts.{stripped, stripped_from, stripped_row}
+use Rattle.pbs_expand.specs.Parts.{copies_part, copies_shape, upto_shape, start_at, end_at, stripped, stripped_from}
+use Rattle.pbs_expand.specs.Parts.{stripped_row}
 use Rattle.pbs_names.proofs.BareForms.{bare_form, form_bare, body_bare}
 
 abbrev pub bare_part : Part → Part

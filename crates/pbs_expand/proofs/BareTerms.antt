@@ -1,6 +1,5 @@
 -- What a term with every box at one place means, and what stands in it.
 use Rattle.std.proofs.Common.{◌≡◌, List, ◌∷◌, map, length, refl, ap, ap₂, ◌∙◌}
-use Rattle.bool_terms.specs.Terms.{Term}
 use Rattle.bool_terms.specs.Terms as bools
 use Rattle.pbs_ast.specs.declared.syntax.Decl.{Decl}
 use Rattle.pbs_ast.specs.declared.syntax.SpecTerm as terms

@@ -1,6 +1,6 @@
 -- The term that a written term stands for.
-use Rattle.std.specs.Prelude.{ℕ, zero, suc, true, false, ◌+◌, ◌/◌, if◌then◌else◌, Option, Some, None}
-use Rattle.std.specs.Prelude.{List, [], ◌∷◌, length, take, drop}
+use Rattle.std.specs.Prelude.{ℕ, zero, suc, true, false, ◌+◌, ◌/◌, if◌then◌else◌, Option, Some, None, List, [], ◌∷◌}
+use Rattle.std.specs.Prelude.{length, take, drop}
 use Rattle.pbs_base.specs.Entries.{bit}
 use Rattle.bool_terms.specs.Terms.{Term, Const, Input, Not, And, Or}
 use Rattle.pbs_ast.specs.declared.syntax.Decl.{Decl}

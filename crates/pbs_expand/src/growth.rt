@@ -2,8 +2,7 @@
 
 ghost use Rattle.std.specs.Prelude.{◌≡◌};
 ghost use Rattle.pbs_expand.specs.Parts.{part_of};
-ghost use Rattle.pbs_expand.specs.inner.Outcomes.{IsWithin};
-ghost use Rattle.pbs_expand.specs.inner.Outcomes.{IsOutcome, outcome};
+ghost use Rattle.pbs_expand.specs.inner.Outcomes.{IsWithin, IsOutcome, outcome};
 ghost use Rattle.pbs_names.specs.Naming.{action_names, index_of};
 ghost use Rattle.pbs_expand.specs.inner.Numbers.{Serves};
 ghost use Rattle.pbs_expand.specs.Walks.{walk, action_walk};

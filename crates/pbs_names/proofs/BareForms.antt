@@ -1,5 +1,5 @@
 -- The form of an expression with every box at one place, and the body of a production.
-use Rattle.std.proofs.Common.{◌≡◌, ℕ, true, false, List, [], ◌∷◌, Option, Some, None, map, refl, ap, ◌∙◌}
+use Rattle.std.proofs.Common.{◌≡◌, ℕ, true, false, List, [], ◌∷◌, Some, map, refl, ap, ◌∙◌}
 use Rattle.std.specs.Prelude.{◌==◌, if◌then◌else◌}
 use Rattle.std.specs.Option.{option_map}
 use Rattle.std.specs.Cmp.Lexicographic.{pointwise}
@@ -8,8 +8,8 @@ use Rattle.pbs_ast.specs.declared.syntax.Kind as kind
 use Rattle.pbs_ast.specs.declared.syntax.Kind.{items_hidden-the_row-Expr-0}
 use Rattle.pbs_ast.specs.declared.syntax.Prod.{Prod}
 use Rattle.pbs_ast.specs.Bare.{bare_term, bare_kind, bare_exprs, bare_expr, bare_prod}
-use Rattle.pbs_names.specs.Forms.{Form, form, form_of}
-use Rattle.pbs_names.specs.Forms.{Empty, Terminal, Action, Seq, Choice, Star, Plus, Opt, Hold, Scope, Name, Repeat}
+use Rattle.pbs_names.specs.Forms.{Form, form, form_of, Empty, Terminal, Action, Seq, Choice, Star, Plus, Opt, Hold}
+use Rattle.pbs_names.specs.Forms.{Scope, Name, Repeat}
 use Rattle.pbs_names.specs.Naming.{body_of}
 use Rattle.pbs_ast.proofs.BareRows.{bare_exprs_is}
 

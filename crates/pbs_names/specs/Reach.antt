@@ -5,8 +5,8 @@ use Rattle.pbs_ast.specs.declared.syntax.Expr.{Expr}
 use Rattle.pbs_ast.specs.declared.syntax.Prod.{Prod}
 use Rattle.pbs_ast.specs.declared.syntax.SpecTerm.{SpecTerm}
 use Rattle.pbs_names.specs.Naming.{body_of}
-use Rattle.pbs_names.specs.Forms.{Form, form, parts}
-use Rattle.pbs_names.specs.Forms.{Empty, Terminal, Action, Seq, Choice, Star, Plus, Opt, Hold, Scope, Name, Repeat}
+use Rattle.pbs_names.specs.Forms.{Form, form, parts, Empty, Terminal, Action, Seq, Choice, Star, Plus, Opt, Hold, Scope}
+use Rattle.pbs_names.specs.Forms.{Name, Repeat}
 
 -- a form lies in another: it is it, or lies in one of its parts, or in the production that it names
 pub data LiesIn (prods : List Prod) (d : Form) : Form → Type 0 where

@@ -1,7 +1,7 @@
 pub mod Lexing
 pub mod Grammar
 pub mod Trees
-pub mod Holes
+pub mod Nesting
 pub mod Refusals
 pub mod Answers
 pub mod places

@@ -1,5 +1,5 @@
-use Rattle.pbs_round.proofs.Whole.{written_reads_back, read_reads_back}
-use Rattle.pbs_round.proofs.canonical_reads_back.Goals as goal
+use Rattle.pbs_print.proofs.Whole.{written_reads_back, read_reads_back}
+use Rattle.pbs_print.proofs.laws.canonical_reads_back.Goals as goal
 
 pub returns-clause-written : goal.returns-clause-written
 returns-clause-written c = written_reads_back

@@ -14,10 +14,10 @@ use Rattle.pbs_text.specs.Grammar.{AllPhrase, OneUnit, MoreUnits, TermPhrase, On
 use Rattle.pbs_text.specs.Grammar.{term_tokens}
 use Rattle.pbs_text.specs.Trees.{all_node, any_node, unit_tree, all_items, term_items, all_tree, term_tree}
 use Rattle.pbs_print.specs.Canonical.{is_any, is_joined}
-use Rattle.pbs_round.specs.Unspanned.{unspanned_term, unspanned_terms, no_span}
-use Rattle.pbs_round.proofs.Pieces.{Piece, Sign, Stands, one_digit, wrapped, InBrackets}
-use Rattle.pbs_round.proofs.Terms.{AllOf, AnyOf, between, bit_pieces, term_pieces, list_pieces, rest_pieces, TermIs}
-use Rattle.pbs_round.proofs.Terms.{TermsAre}
+use Rattle.pbs_print.specs.Unspanned.{unspanned_term, unspanned_terms, no_span}
+use Rattle.pbs_print.proofs.TextPieces.{Piece, Sign, Stands, one_digit, wrapped, InBrackets}
+use Rattle.pbs_print.proofs.TermPieces.{AllOf, AnyOf, between, bit_pieces, term_pieces, list_pieces, rest_pieces}
+use Rattle.pbs_print.proofs.TermPieces.{TermIs, TermsAre}
 
 -- ---- a list of terms apart from spans
 

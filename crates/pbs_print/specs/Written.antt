@@ -8,7 +8,7 @@ use Rattle.pbs_text.specs.Refusals.{IsRead}
 use Rattle.pbs_text.specs.Trees.{text_spec}
 use Rattle.pbs_text.specs.Answers.{StandsFor}
 use Rattle.pbs_print.specs.Canonical.{canonical}
-use Rattle.pbs_round.specs.Unspanned.{unspanned}
+use Rattle.pbs_print.specs.Unspanned.{unspanned}
 
 -- some text, however long, that breaks none of the rules 2 to 4 stands for the specification
 pub record IsWritten (spec : Spec) : Type 0 where

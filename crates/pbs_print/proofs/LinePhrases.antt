@@ -13,26 +13,26 @@ use Rattle.pbs_text.specs.declared.token.Token.{Token}
 use Rattle.pbs_text.specs.declared.token.TokenKind.{TokenKind}
 use Rattle.pbs_ast.specs.Bare.{expr}
 use Rattle.pbs_text.specs.Grammar.{token, bit_kind, version_kind, numeral_kind, width_kind, Width, OneBit, TwoBits}
-use Rattle.pbs_text.specs.Grammar.{MoreBits, InputPhrase, OneWire, Bus, InputsPhrase, OneInput, MoreInputs}
-use Rattle.pbs_text.specs.Grammar.{NamesPhrase, OneName, MoreNames, SetsPhrase, NoSets, MoreSets, DeclPhrase}
-use Rattle.pbs_text.specs.Grammar.{InputDecl, ActionDecl, LevelDecl, ProdDecl, DeclsPhrase, NoDecls, MoreDecls}
-use Rattle.pbs_text.specs.Grammar.{SpecPhrase, input_tokens, inputs_tokens, names_tokens, sets_tokens, decl_tokens}
-use Rattle.pbs_text.specs.Grammar.{decls_tokens, spec_tokens, expr_tokens}
+use Rattle.pbs_text.specs.Grammar.{MoreBits, InputPhrase, OneWire, Bus, InputsPhrase, OneInput, MoreInputs, NamesPhrase}
+use Rattle.pbs_text.specs.Grammar.{OneName, MoreNames, SetsPhrase, NoSets, MoreSets, DeclPhrase, InputDecl, ActionDecl}
+use Rattle.pbs_text.specs.Grammar.{LevelDecl, ProdDecl, DeclsPhrase, NoDecls, MoreDecls, SpecPhrase, input_tokens}
+use Rattle.pbs_text.specs.Grammar.{inputs_tokens, names_tokens, sets_tokens, decl_tokens, decls_tokens, spec_tokens}
+use Rattle.pbs_text.specs.Grammar.{expr_tokens}
 use Rattle.pbs_text.specs.Trees.{width_value, word_at, declared, input_of, inputs_of, names_of, sets_of, declared_by}
 use Rattle.pbs_text.specs.Trees.{version_number, spec_of}
 use Rattle.pbs_text.specs.Lexing.{digit_kind, number_kind}
-use Rattle.pbs_round.specs.Unspanned.{no_span, unspanned_kind, unspanned_decl, unspanned_set, unspanned_level}
-use Rattle.pbs_round.specs.Unspanned.{unspanned_prod, unspanned}
-use Rattle.pbs_round.proofs.Pieces.{Piece, Blank, Sign, Word, Stands, Written, one_digit}
-use Rattle.pbs_round.proofs.Terms.{bit_pieces}
-use Rattle.pbs_round.proofs.TermsRead.{Each}
-use Rattle.pbs_round.proofs.TermPhrases.{map-end, bit-token}
-use Rattle.pbs_round.proofs.Exprs.{kind_pieces}
-use Rattle.pbs_round.proofs.ExprPhrases.{finds_expr}
-use Rattle.pbs_round.proofs.Lines.{end_pieces, width_pieces, decl_pieces, more_decls, decls_pieces, input_word}
-use Rattle.pbs_round.proofs.Lines.{action_word, set_pieces, sets_pieces, close_pieces, level_pieces, levels_pieces}
-use Rattle.pbs_round.proofs.Lines.{prod_pieces, prods_pieces, main_pieces, block_pieces, spec_pieces, WidthIs, DeclIs}
-use Rattle.pbs_round.proofs.Lines.{ActionIs, ProdIs, SpecIs}
+use Rattle.pbs_print.specs.Unspanned.{no_span, unspanned_kind, unspanned_decl, unspanned_set, unspanned_level}
+use Rattle.pbs_print.specs.Unspanned.{unspanned_prod, unspanned}
+use Rattle.pbs_print.proofs.TextPieces.{Piece, Blank, Sign, Word, Stands, Written, one_digit}
+use Rattle.pbs_print.proofs.TermPieces.{bit_pieces}
+use Rattle.pbs_print.proofs.TermsRead.{Each}
+use Rattle.pbs_print.proofs.TermPhrases.{map-end, bit-token}
+use Rattle.pbs_print.proofs.ExprPieces.{kind_pieces}
+use Rattle.pbs_print.proofs.ExprPhrases.{finds_expr}
+use Rattle.pbs_print.proofs.LinePieces.{end_pieces, width_pieces, decl_pieces, more_decls, decls_pieces, input_word}
+use Rattle.pbs_print.proofs.LinePieces.{action_word, set_pieces, sets_pieces, close_pieces, level_pieces, levels_pieces}
+use Rattle.pbs_print.proofs.LinePieces.{prod_pieces, prods_pieces, main_pieces, block_pieces, spec_pieces, WidthIs}
+use Rattle.pbs_print.proofs.LinePieces.{DeclIs, ActionIs, ProdIs, SpecIs}
 use Rattle.pbs_lex.proofs.Found.{chosen}
 use Rattle.pbs_text.specs.declared.token.TokenKind.TheVariants as kind
 

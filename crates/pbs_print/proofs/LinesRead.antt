@@ -10,10 +10,10 @@ use Rattle.pbs_text.specs.Grammar.{MoreDecls, SpecPhrase, version_kind, input_to
 use Rattle.pbs_text.specs.Grammar.{sets_tokens, decl_tokens, decls_tokens, spec_tokens, expr_tokens}
 use Rattle.pbs_text.specs.Trees.{declared, input_of, inputs_of, names_of, sets_of, Declared, with_decl, declared_by}
 use Rattle.pbs_text.specs.Trees.{spec_of, expr_tree, word_at}
-use Rattle.pbs_round.proofs.Proper.{Proper}
-use Rattle.pbs_round.proofs.TermsRead.{Each, each-end}
-use Rattle.pbs_round.proofs.ExprsRead.{expr_is_read}
-use Rattle.pbs_round.proofs.Lines.{DeclIs, ActionIs, SetIs, LevelIs, ProdIs, SpecIs}
+use Rattle.pbs_print.proofs.Proper.{Proper}
+use Rattle.pbs_print.proofs.TermsRead.{Each, each-end}
+use Rattle.pbs_print.proofs.ExprsRead.{expr_is_read}
+use Rattle.pbs_print.proofs.LinePieces.{DeclIs, ActionIs, SetIs, LevelIs, ProdIs, SpecIs}
 
 each-append : {A : Type 0} (P : A → Type 0) (xs ys : List A) → Each P xs → Each P ys → Each P (xs ++ ys)
 each-append P [] ys h k = k

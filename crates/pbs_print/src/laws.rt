@@ -1,13 +1,11 @@
 //! The law that the canonical text of a specification reads back.
-#![tactic(auto)]
-
 ghost use Rattle.std.specs.Prelude.{ℕ, ◌≡◌, ◌≤◌, List, length};
 ghost use Rattle.pbs_ast.specs.declared.syntax.Spec.{Spec};
 ghost use Rattle.pbs_text.specs.Answers.{StandsFor};
 ghost use Rattle.pbs_ast.specs.Bare.{bare};
 ghost use Rattle.pbs_print.specs.Canonical.{canonical};
-ghost use Rattle.pbs_round.specs.Unspanned.{unspanned};
-ghost use Rattle.pbs_round.specs.Written.{IsWritten, ReadsBack};
+ghost use Rattle.pbs_print.specs.Unspanned.{unspanned};
+ghost use Rattle.pbs_print.specs.Written.{IsWritten, ReadsBack};
 
 /// A canonical text that isn't too long stands for the same specification apart from spans.
 pub fn canonical_reads_back()
@@ -17,11 +15,4 @@ pub fn canonical_reads_back()
     // Of what `read_spec` gives.
     ensures read { (bytes : List ℕ) (spec : Spec) → StandsFor bytes (bare spec) → length (canonical spec) ≤ 1048576
         → ReadsBack spec }
-{}
-
-/// The canonical text depends neither on spans nor on where boxes lie.
-pub fn canonical_is_unspanned()
-    ensures spans { (spec : Spec) → canonical (unspanned spec) ≡ canonical spec }
-    ensures boxes { (spec : Spec) → canonical (bare spec) ≡ canonical spec }
-    ensures neither { (spec : Spec) → unspanned (bare spec) ≡ unspanned spec }
 {}

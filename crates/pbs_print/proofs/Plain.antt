@@ -17,12 +17,12 @@ use Rattle.pbs_print.specs.Canonical.{seq_members, choice_members, decl_text, de
 use Rattle.pbs_print.specs.Canonical.{prod_line, canonical}
 use Rattle.pbs_print.proofs.JoinedPieces.{all_member, any_member, seq_member, choice_member, text-all, text-any}
 use Rattle.pbs_print.proofs.JoinedPieces.{text-seq, text-choice}
-use Rattle.pbs_round.specs.Unspanned.{no_span, unspanned_term, unspanned_terms, unspanned_kind, unspanned_exprs}
-use Rattle.pbs_round.specs.Unspanned.{unspanned_expr, unspanned_decl, unspanned_set, unspanned_level, unspanned_prod}
-use Rattle.pbs_round.specs.Unspanned.{unspanned}
-use Rattle.pbs_round.proofs.TermPhrases.{unspanned-row}
-use Rattle.pbs_round.proofs.ExprPhrases as exprs
-use Rattle.pbs_round.proofs.LinePhrases.{spec_same}
+use Rattle.pbs_print.specs.Unspanned.{no_span, unspanned_term, unspanned_terms, unspanned_kind, unspanned_exprs}
+use Rattle.pbs_print.specs.Unspanned.{unspanned_expr, unspanned_decl, unspanned_set, unspanned_level, unspanned_prod}
+use Rattle.pbs_print.specs.Unspanned.{unspanned}
+use Rattle.pbs_print.proofs.TermPhrases.{unspanned-row}
+use Rattle.pbs_print.proofs.ExprPhrases as exprs
+use Rattle.pbs_print.proofs.LinePhrases.{spec_same}
 
 map-map : {A B C : Type 0} (f : B → C) (g : A → B) (h : A → C) → ((x : A) → f (g x) ≡ h x) → (xs : List A)
     → map f (map g xs) ≡ map h xs

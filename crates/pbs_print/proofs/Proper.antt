@@ -2,13 +2,12 @@
 use Rattle.std.proofs.Common.{◌≡◌, ℕ, List, [], ◌∷◌, false, arith}
 use Rattle.pbs_base.specs.declared.refusal.Span.{Span}
 use Rattle.pbs_text.specs.declared.token.Token.{Token}
-use Rattle.pbs_text.specs.declared.token.TokenKind.{TokenKind}
 use Rattle.pbs_text.specs.Grammar.{token, Numeral, ZeroNumeral, OneNumeral, TwoNumeral, DigitNumeral, LongNumeral}
 use Rattle.pbs_text.specs.Grammar.{numeral_kind}
 use Rattle.pbs_text.specs.Trees.{word_at, numeral_value}
 use Rattle.pbs_lex.proofs.Found.{IsSmall, FoundAs, AreFound}
-use Rattle.pbs_round.proofs.Nesting.{Opened, closed, behind, is_over, Shallow}
-use Rattle.pbs_text.specs.declared.token.TokenKind.TheVariants as kind
+use Rattle.pbs_text.specs.Nesting.{Opened, closed, behind}
+use Rattle.pbs_grammar.proofs.Nesting.{is_over, Shallow}
 
 abbrev pub Proper : List ℕ → List Opened → List Token → Type 0
 Proper bytes s [] = Unit {0}

@@ -13,12 +13,13 @@ use Rattle.pbs_text.specs.Grammar.{token, UnitPhrase, Negated, Bracketed, Named,
 use Rattle.pbs_text.specs.Grammar.{MoreUnits, TermPhrase, OneAll, MoreAlls, unit_tokens, all_tokens, term_tokens}
 use Rattle.pbs_text.specs.Trees.{all_node, any_node, unit_tree, all_items, term_items, all_tree, term_tree}
 use Rattle.pbs_print.specs.Canonical.{is_joined}
-use Rattle.pbs_round.specs.Unspanned.{unspanned_term, unspanned_terms}
-use Rattle.pbs_round.proofs.Nesting.{Opened, Round, Waiting, closed, closed-twice}
-use Rattle.pbs_round.proofs.Pieces.{InBrackets}
-use Rattle.pbs_round.proofs.Proper.{Proper, proper-number}
-use Rattle.pbs_round.proofs.Terms.{TermList, AllOf, AnyOf, wraps, TermIs, TermsAre}
-use Rattle.pbs_round.proofs.TermPhrases.{unspanned-row}
+use Rattle.pbs_print.specs.Unspanned.{unspanned_term, unspanned_terms}
+use Rattle.pbs_text.specs.Nesting.{Opened, Round, Waiting, closed}
+use Rattle.pbs_grammar.proofs.Nesting.{closed-twice}
+use Rattle.pbs_print.proofs.TextPieces.{InBrackets}
+use Rattle.pbs_print.proofs.Proper.{Proper, proper-number}
+use Rattle.pbs_print.proofs.TermPieces.{TermList, AllOf, AnyOf, wraps, TermIs, TermsAre}
+use Rattle.pbs_print.proofs.TermPhrases.{unspanned-row}
 
 -- what holds of each
 abbrev pub Each : {A : Type 0} → (A → Type 0) → List A → Type 0

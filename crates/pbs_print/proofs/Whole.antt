@@ -13,15 +13,15 @@ use Rattle.pbs_ast.specs.Bare.{bare}
 use Rattle.pbs_grammar.proofs.Phrases.{walk-text}
 use Rattle.pbs_grammar.proofs.Exact.{reading_says, reading_is}
 use Rattle.pbs_print.specs.Canonical.{canonical}
-use Rattle.pbs_round.specs.Written.{IsWritten, ReadsBack}
-use Rattle.pbs_round.proofs.Nesting.{Shallow, text_shallow, shallow_text}
-use Rattle.pbs_round.proofs.Pieces.{text, placed, lex-text, Stands, stands, flat_shallow}
+use Rattle.pbs_print.specs.Written.{IsWritten, ReadsBack}
+use Rattle.pbs_grammar.proofs.Nesting.{Shallow, text_shallow, shallow_text}
+use Rattle.pbs_print.proofs.TextPieces.{text, placed, lex-text, Stands, stands, flat_shallow}
 use Rattle.pbs_lex.proofs.Found.{tokens_found}
-use Rattle.pbs_round.proofs.Proper.{Proper, are_proper}
-use Rattle.pbs_round.proofs.Lines.{spec_pieces, text-spec, SpecIs, spec-reads, spec-flat}
-use Rattle.pbs_round.proofs.LinesRead.{spec_is_read}
-use Rattle.pbs_round.proofs.LinePhrases.{finds_spec}
-use Rattle.pbs_round.proofs.Plain.{bare-plain, canonical-bare}
+use Rattle.pbs_print.proofs.Proper.{Proper, are_proper}
+use Rattle.pbs_print.proofs.LinePieces.{spec_pieces, text-spec, SpecIs, spec-reads, spec-flat}
+use Rattle.pbs_print.proofs.LinesRead.{spec_is_read}
+use Rattle.pbs_print.proofs.LinePhrases.{finds_spec}
+use Rattle.pbs_print.proofs.Plain.{bare-plain, canonical-bare}
 
 -- what is written can be written so
 written_is : (text : List ℕ) (found : List Token) (phrase : TextPhrase) → tokens text ≡ Ok found → IsRead found phrase

@@ -21,12 +21,12 @@ use Rattle.pbs_text.specs.Grammar.{expr_tokens, seq_tokens, item_tokens, prim_to
 use Rattle.pbs_text.specs.Trees.{seq_node, choice_node, operator_node, expr_items, seq_items, item_tree, prim_tree}
 use Rattle.pbs_text.specs.Trees.{group_tree, seq_tree, expr_tree}
 use Rattle.pbs_print.specs.Canonical.{is_empty, is_choice, is_list, is_wide}
-use Rattle.pbs_round.specs.Unspanned.{unspanned_term, unspanned_kind, unspanned_exprs, unspanned_expr, no_span}
-use Rattle.pbs_round.proofs.Pieces.{Piece, Blank, Sign, Stands, wrapped}
-use Rattle.pbs_round.proofs.Terms.{term_pieces, TermIs}
-use Rattle.pbs_round.proofs.TermPhrases.{too_few, none, map-end, either, finds_term}
-use Rattle.pbs_round.proofs.Exprs.{SeqOf, ChoiceOf, between, bounds_pieces, hold_word, try_word, abort_word, then_word}
-use Rattle.pbs_round.proofs.Exprs.{kind_pieces, list_pieces, rest_pieces, KindIs, KindsAre}
+use Rattle.pbs_print.specs.Unspanned.{unspanned_term, unspanned_kind, unspanned_exprs, unspanned_expr, no_span}
+use Rattle.pbs_print.proofs.TextPieces.{Piece, Blank, Sign, Stands, wrapped}
+use Rattle.pbs_print.proofs.TermPieces.{term_pieces, TermIs}
+use Rattle.pbs_print.proofs.TermPhrases.{too_few, none, map-end, either, finds_term}
+use Rattle.pbs_print.proofs.ExprPieces.{SeqOf, ChoiceOf, between, bounds_pieces, hold_word, try_word, abort_word}
+use Rattle.pbs_print.proofs.ExprPieces.{then_word, kind_pieces, list_pieces, rest_pieces, KindIs, KindsAre}
 
 -- ---- a list of expressions apart from spans
 

@@ -1,6 +1,6 @@
 -- The canonical text of a specification in pieces, and that it can be read.
-use Rattle.std.proofs.Common.{◌≡◌, ℕ, zero, suc, ◌<◌, List, [], ◌∷◌, ◌++◌, map, Bool, true, false, refl, sym, ap}
-use Rattle.std.proofs.Common.{subst, ◌∙◌, append_assoc, append-nil, arith, lit<}
+use Rattle.std.proofs.Common.{◌≡◌, ℕ, zero, suc, ◌<◌, List, [], ◌∷◌, ◌++◌, map, Bool, true, false, refl, sym, ap, subst}
+use Rattle.std.proofs.Common.{◌∙◌, append_assoc, append-nil, arith, lit<}
 use Rattle.std.specs.Prelude.{codes, decimal}
 use Rattle.std.specs.List.{concat}
 use Rattle.pbs_ast.specs.declared.syntax.Kind.{Kind}
@@ -13,11 +13,11 @@ use Rattle.pbs_text.specs.Grammar.{Second}
 use Rattle.pbs_text.specs.Trees.{version_number}
 use Rattle.pbs_print.specs.Canonical.{followed, joined, bit_text, kind_text, width_text, decl_text, decls_line}
 use Rattle.pbs_print.specs.Canonical.{set_text, level_line, prod_line, canonical}
-use Rattle.pbs_round.proofs.Pieces.{Piece, Blank, Sign, Word, Digits, text, text-append, IsParted, IsReadable, Flat}
-use Rattle.pbs_round.proofs.Pieces.{ReadsOn}
-use Rattle.pbs_round.proofs.Terms.{bit_pieces, text-bit, bit-reads, bit-flat}
-use Rattle.pbs_round.proofs.TermsRead.{Each}
-use Rattle.pbs_round.proofs.Exprs.{kind_pieces, text-kind, KindIs, kind-reads, kind-flat}
+use Rattle.pbs_print.proofs.TextPieces.{Piece, Blank, Sign, Word, Digits, text, text-append, IsParted, IsReadable, Flat}
+use Rattle.pbs_print.proofs.TextPieces.{ReadsOn}
+use Rattle.pbs_print.proofs.TermPieces.{bit_pieces, text-bit, bit-reads, bit-flat}
+use Rattle.pbs_print.proofs.TermsRead.{Each}
+use Rattle.pbs_print.proofs.ExprPieces.{kind_pieces, text-kind, KindIs, kind-reads, kind-flat}
 use Rattle.pbs_lex.proofs.Found.{IsWord, IsSmall}
 use Rattle.pbs_text.specs.declared.token.TokenKind.TheVariants as kind
 

@@ -19,13 +19,13 @@ use Rattle.pbs_text.specs.Grammar.{item_tokens, prim_tokens, group_tokens}
 use Rattle.pbs_text.specs.Trees.{seq_node, choice_node, expr_items, seq_items, item_tree, prim_tree, group_tree}
 use Rattle.pbs_text.specs.Trees.{seq_tree, expr_tree, seq_extent, expr_extent}
 use Rattle.pbs_print.specs.Canonical.{is_empty, is_choice, is_list, is_wide}
-use Rattle.pbs_round.specs.Unspanned.{unspanned_exprs, unspanned_expr}
-use Rattle.pbs_round.proofs.Nesting.{Opened, Round, closed}
-use Rattle.pbs_round.proofs.Pieces.{InBrackets}
-use Rattle.pbs_round.proofs.Proper.{Proper, proper-number}
-use Rattle.pbs_round.proofs.TermsRead.{Each, each-end, lower-brackets, lower, low, some_more, ItemsRead, term_is_read}
-use Rattle.pbs_round.proofs.Exprs.{ExprList, SeqOf, ChoiceOf, wraps, KindIs, KindsAre}
-use Rattle.pbs_round.proofs.ExprPhrases.{unspanned-row}
+use Rattle.pbs_print.specs.Unspanned.{unspanned_exprs, unspanned_expr}
+use Rattle.pbs_text.specs.Nesting.{Opened, Round, closed}
+use Rattle.pbs_print.proofs.TextPieces.{InBrackets}
+use Rattle.pbs_print.proofs.Proper.{Proper, proper-number}
+use Rattle.pbs_print.proofs.TermsRead.{Each, each-end, lower-brackets, lower, low, some_more, ItemsRead, term_is_read}
+use Rattle.pbs_print.proofs.ExprPieces.{ExprList, SeqOf, ChoiceOf, wraps, KindIs, KindsAre}
+use Rattle.pbs_print.proofs.ExprPhrases.{unspanned-row}
 
 -- ---- less nesting is no harder
 

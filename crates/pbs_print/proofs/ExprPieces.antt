@@ -7,12 +7,13 @@ use Rattle.pbs_ast.specs.declared.syntax.Kind.{Kind, Row_of-Expr, end_of-Expr, m
 use Rattle.pbs_text.specs.Grammar.{Second}
 use Rattle.pbs_print.specs.Canonical.{followed, joined, bracketed, is_empty, is_choice, is_list, is_wide, term_text}
 use Rattle.pbs_print.specs.Canonical.{kind_text, seq_members, choice_members}
-use Rattle.pbs_round.specs.Unspanned.{unspanned_exprs}
-use Rattle.pbs_round.proofs.Nesting.{Opened, closed, closed-twice, length-closed}
-use Rattle.pbs_round.proofs.Pieces.{Piece, Blank, Sign, Word, Digits, text, text-append, IsParted, IsReadable, Flat}
-use Rattle.pbs_round.proofs.Pieces.{wrapped, text-wrapped, InBrackets, ReadsOn, wrapped-reads, not_over, FlatAt}
-use Rattle.pbs_round.proofs.Pieces.{wrapped-flat}
-use Rattle.pbs_round.proofs.Terms.{term_pieces, text-term, TermIs, term-reads, term-flat}
+use Rattle.pbs_print.specs.Unspanned.{unspanned_exprs}
+use Rattle.pbs_text.specs.Nesting.{Opened, closed}
+use Rattle.pbs_grammar.proofs.Nesting.{closed-twice, length-closed}
+use Rattle.pbs_print.proofs.TextPieces.{Piece, Blank, Sign, Word, Digits, text, text-append, IsParted, IsReadable, Flat}
+use Rattle.pbs_print.proofs.TextPieces.{wrapped, text-wrapped, InBrackets, ReadsOn, wrapped-reads, not_over, FlatAt}
+use Rattle.pbs_print.proofs.TextPieces.{wrapped-flat}
+use Rattle.pbs_print.proofs.TermPieces.{term_pieces, text-term, TermIs, term-reads, term-flat}
 use Rattle.pbs_lex.proofs.Found.{IsWord, IsSmall}
 use Rattle.pbs_ast.specs.declared.syntax.Kind as node
 use Rattle.pbs_text.specs.declared.token.TokenKind.TheVariants as kind

@@ -2,9 +2,9 @@
 use Rattle.std.specs.Prelude.{ℕ, zero, suc, Bool, List, [], ◌∷◌, ◌++◌}
 use Rattle.pbs_base.specs.declared.refusal.Span.{Span}
 use Rattle.pbs_text.specs.declared.token.Token.{Token}
-use Rattle.pbs_text.specs.declared.token.TokenKind.TheVariants.{Name, ProdWord, MainWord, HoldWord, TryWord}
-use Rattle.pbs_text.specs.declared.token.TokenKind.TheVariants.{AbortWord, ThenWord, Comma, Equals, OpenRound}
-use Rattle.pbs_text.specs.declared.token.TokenKind.TheVariants.{OpenSquare, CloseSquare, Bar, Tilde, Ampersand, Colon}
+use Rattle.pbs_text.specs.declared.token.TokenKind.TheVariants.{Name, ProdWord, MainWord, HoldWord, TryWord, AbortWord}
+use Rattle.pbs_text.specs.declared.token.TokenKind.TheVariants.{ThenWord, Comma, Equals, OpenRound, OpenSquare}
+use Rattle.pbs_text.specs.declared.token.TokenKind.TheVariants.{CloseSquare, Bar, Tilde, Ampersand, Colon}
 use Rattle.pbs_text.specs.Grammar.{token, AllPhrase, TermPhrase, ExprPhrase, SeqPhrase, GroupPhrase, DeclsPhrase}
 use Rattle.pbs_text.specs.Grammar.{all_tokens, term_tokens, expr_tokens, seq_tokens, group_tokens, decls_tokens}
 use Rattle.pbs_text.specs.Grammar.{head_tokens}

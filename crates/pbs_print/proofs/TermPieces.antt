@@ -3,16 +3,16 @@ use Rattle.std.proofs.Common.{◌≡◌, ℕ, suc, ◌<◌, ◌≤◌, List, [],
 use Rattle.std.proofs.Common.{subst, ◌∙◌, append_assoc, append-nil, arith}
 use Rattle.std.specs.Prelude.{codes, decimal}
 use Rattle.std.proofs.lemmas.Fmt.{decimal_digit}
-use Rattle.pbs_ast.specs.declared.syntax.SpecTerm.{items-the_row-SpecTerm, items_hidden-the_row-SpecTerm-0}
 use Rattle.pbs_ast.specs.declared.syntax.SpecTerm.{SpecTerm, Row_of-SpecTerm, end_of-SpecTerm, more_of-SpecTerm}
 use Rattle.pbs_text.specs.Grammar.{Second}
-use Rattle.pbs_print.specs.Canonical.{followed, joined, bracketed, is_any, is_joined, bit_text, term_text}
-use Rattle.pbs_print.specs.Canonical.{all_members, any_members}
-use Rattle.pbs_round.specs.Unspanned.{unspanned_terms}
-use Rattle.pbs_round.proofs.Nesting.{Opened, Waiting, closed, closed-twice, length-closed}
-use Rattle.pbs_round.proofs.Pieces.{Piece, Blank, Sign, Word, Digits, text, text-append, IsParted, IsReadable, Flat}
-use Rattle.pbs_round.proofs.Pieces.{wrapped, text-wrapped, InBrackets, ReadsOn, wrapped-reads, not_over, FlatAt}
-use Rattle.pbs_round.proofs.Pieces.{wrapped-flat}
+use Rattle.pbs_print.specs.Canonical.{followed, joined, bracketed, is_any, is_joined, bit_text, term_text, all_members}
+use Rattle.pbs_print.specs.Canonical.{any_members}
+use Rattle.pbs_print.specs.Unspanned.{unspanned_terms}
+use Rattle.pbs_text.specs.Nesting.{Opened, Waiting, closed}
+use Rattle.pbs_grammar.proofs.Nesting.{closed-twice, length-closed}
+use Rattle.pbs_print.proofs.TextPieces.{Piece, Blank, Sign, Word, Digits, text, text-append, IsParted, IsReadable, Flat}
+use Rattle.pbs_print.proofs.TextPieces.{wrapped, text-wrapped, InBrackets, ReadsOn, wrapped-reads, not_over, FlatAt}
+use Rattle.pbs_print.proofs.TextPieces.{wrapped-flat}
 use Rattle.pbs_lex.proofs.Found.{IsWord, IsSmall}
 use Rattle.pbs_ast.specs.declared.syntax.SpecTerm as node
 use Rattle.pbs_text.specs.declared.token.TokenKind.TheVariants as kind

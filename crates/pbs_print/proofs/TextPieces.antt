@@ -1,12 +1,15 @@
 -- A text in pieces, and its tokens.
-use Rattle.std.proofs.Common.{◌≡◌, ℕ, zero, suc, ◌+◌, ◌-◌, ◌/◌, ◌%◌, ◌<◌, ◌≤◌, ◌^◌, List, [], ◌∷◌, ◌++◌, length, take}
-use Rattle.std.proofs.Common.{drop, Bool, true, false, nat_lt, Ok, refl, sym, ap, subst, ◌∙◌, append_assoc}
-use Rattle.std.proofs.Common.{length-append, arith}
+use Rattle.std.proofs.Common.{◌≡◌, ℕ, suc, ◌+◌, ◌-◌, ◌/◌, ◌%◌, ◌<◌, ◌≤◌, ◌^◌, List, [], ◌∷◌, ◌++◌, length, take, drop}
+use Rattle.std.proofs.Common.{Bool, true, false, nat_lt, Ok, refl, sym, ap, subst, ◌∙◌, append_assoc, length-append}
+use Rattle.std.proofs.Common.{arith}
 use Rattle.std.specs.Prelude.{◌||◌, ◌==◌, decimal}
 use Rattle.std.specs.List.{prefix_len, list_all}
 use Rattle.std.proofs.lemmas.Bool.Decides.{nat_tests}
 use Rattle.std.proofs.lemmas.Fmt.{decimal_digit, length-decimal-le, decimal_nonempty, digits_decimal}
 use Rattle.std.proofs.lemmas.Fmt.{digits_value-decimal, decimal_step}
+use Rattle.std.proofs.lemmas.Bool.{and_parts}
+use Rattle.std.proofs.lemmas.List.{drop-drop}
+use Rattle.std.proofs.Math.Seq.{drop-append_seam}
 use Rattle.pbs_base.specs.declared.refusal.Span.{Span}
 use Rattle.pbs_text.specs.declared.token.Token.{Token}
 use Rattle.pbs_text.specs.declared.token.TokenKind.{TokenKind}
@@ -18,8 +21,9 @@ use Rattle.pbs_text.specs.Lexing.{number_kind, limited, word_piece, number_piece
 use Rattle.pbs_text.specs.Lexing.{lex}
 use Rattle.pbs_lex.proofs.Lexes.{lex-piece, lex-end}
 use Rattle.pbs_print.specs.Canonical.{bracketed}
-use Rattle.pbs_round.proofs.Nesting.{Opened, Round, closed, behind, is_over, Shallow}
-use Rattle.pbs_lex.proofs.Found.{both, chosen, IsWord, word_byte, all_digits, IsSmall}
+use Rattle.pbs_text.specs.Nesting.{Opened, Round, closed, behind}
+use Rattle.pbs_grammar.proofs.Nesting.{is_over, Shallow}
+use Rattle.pbs_lex.proofs.Found.{chosen, IsWord, word_byte, all_digits, IsSmall}
 use Rattle.pbs_text.specs.declared.token.TokenKind.TheVariants as kind
 use Rattle.pbs_text.specs.declared.token.Piece.TheVariants as piece
 
@@ -52,17 +56,13 @@ prefix-all : (p : ℕ → Bool) (w rest : List ℕ) → list_all p w ≡ true �
 prefix-all p [] [] h s = refl
 prefix-all p [] (b ∷ bs) h s = rw s refl
 prefix-all p (x ∷ w) rest h s =
-    let parts = both (p x) (list_all p w) h in
+    let parts = and_parts (p x) (list_all p w) h in
     let more : prefix_len p (w ++ rest) ≡ length w = prefix-all p w rest parts.1 s in
     rw (parts.0, more) (omega arith)
 
 take-front : (w rest : List ℕ) → take (length w) (w ++ rest) ≡ w
 take-front [] rest = refl
 take-front (x ∷ w) rest = ap (λ l. x ∷ l) (take-front w rest)
-
-drop-front : (w rest : List ℕ) → drop (length w) (w ++ rest) ≡ rest
-drop-front [] rest = refl
-drop-front (x ∷ w) rest = drop-front w rest
 
 -- ---- words
 
@@ -101,7 +101,7 @@ digits-first [] rest all some few s = absurd (omega arith)
 digits-first (b ∷ ds) rest all some few s =
     let n : prefix_len is_digit ((b ∷ ds) ++ rest) ≡ length (b ∷ ds) = prefix-all is_digit (b ∷ ds) rest all s in
     let front : take (length (b ∷ ds)) ((b ∷ ds) ++ rest) ≡ b ∷ ds = take-front (b ∷ ds) rest in
-    let is = (both (is_digit b) (list_all is_digit ds) all).0 in
+    let is = (and_parts (is_digit b) (list_all is_digit ds) all).0 in
     let not = digit-first b is in
     let l : List ℕ = b ∷ (ds ++ rest) in
     let start : first_piece l ≡ number_piece l = rw (not.0, not.1, is) refl in
@@ -288,17 +288,8 @@ word-there w rest bytes at e =
     let n : at + length w - at ≡ length w = omega arith in
     rw (n, e) (take-front w rest)
 
-drop-none : (n : ℕ) → drop {A = ℕ} n [] ≡ []
-drop-none zero = refl
-drop-none (suc n) = refl
-
-drop-more : (m n : ℕ) (bytes : List ℕ) → drop (m + n) bytes ≡ drop n (drop m bytes)
-drop-more zero n bytes = ap (λ k. drop k bytes) (let e : zero + n ≡ n = omega arith in e)
-drop-more (suc m) n [] = let e : suc m + n ≡ suc (m + n) = omega arith in rw e (sym (drop-none n))
-drop-more (suc m) n (b ∷ bytes) = let e : suc m + n ≡ suc (m + n) = omega arith in rw e (drop-more m n bytes)
-
 pub onward : (w rest bytes : List ℕ) (at : ℕ) → drop at bytes ≡ w ++ rest → drop (at + length w) bytes ≡ rest
-onward w rest bytes at e = drop-more at (length w) bytes ∙ (ap (drop (length w)) e ∙ drop-front w rest)
+onward w rest bytes at e = sym (drop-drop (length w) at bytes) ∙ (ap (drop (length w)) e ∙ drop-append_seam w rest)
 
 pub stands : (bytes : List ℕ) (ps : List Piece) (at : ℕ) → IsReadable ps → drop at bytes ≡ text ps
     → Stands bytes ps (placed at ps)

@@ -1,4 +1,4 @@
--- What is open at a place, from the kinds of the tokens before it; so nesting is a matter of kinds alone.
+-- What is open at a place is what is open behind the tokens before it; so nesting is a matter of their kinds alone.
 use Rattle.std.proofs.Common.{◌≡◌, ℕ, suc, ◌≤◌, List, [], ◌∷◌, length, Bool, cond, true, false, nat_lt, Option, Some}
 use Rattle.std.proofs.Common.{None, Ok, Err, refl, sym, ap, subst, ◌∙◌, arith}
 use Rattle.std.specs.Prelude.{IfSome, option_map, option_and_then}
@@ -11,57 +11,30 @@ use Rattle.pbs_text.specs.declared.token.TokenKind.TheVariants.{HoldWord, TryWor
 use Rattle.pbs_text.specs.declared.token.TokenKind.TheVariants.{Comma, Equals, OpenCurly, CloseCurly, OpenRound}
 use Rattle.pbs_text.specs.declared.token.TokenKind.TheVariants.{CloseRound, OpenSquare, CloseSquare, Bar, Star, Plus}
 use Rattle.pbs_text.specs.declared.token.TokenKind.TheVariants.{Question, Tilde, Ampersand, Colon}
-use Rattle.pbs_text.specs.Grammar.{ZeroNumeral, OneNumeral, TwoNumeral, DigitNumeral, LongNumeral, UnitPhrase}
-use Rattle.pbs_text.specs.Grammar.{Negated, Bracketed, Named, Bit, Compared, AllPhrase, TermPhrase, ExprPhrase}
-use Rattle.pbs_text.specs.Grammar.{ItemPhrase, Plain, GroupPhrase, TextPhrase}
-use Rattle.pbs_text.specs.Holes.{ExprHole, OfGroup, OfProd, OfMain, SeqHole, FirstSeq, NextSeq, ItemHole, FirstItem}
-use Rattle.pbs_text.specs.Holes.{NextItem, GroupHole, AsPrim, OfHold, OfBody, OfTrap, OfAfter, TermHole, OfTerminal}
-use Rattle.pbs_text.specs.Holes.{OfGuard, InRound, AllHole, FirstAll, NextAll, UnitHole, UnderNot, FirstUnit}
-use Rattle.pbs_text.specs.Holes.{NextUnit, expr_nesting, seq_nesting, item_nesting, group_nesting, term_nesting}
-use Rattle.pbs_text.specs.Holes.{all_nesting, unit_nesting}
-use Rattle.pbs_text.specs.places.Places.{NameHole, FirstName, NextName, Place, Start, AfterSpec, AfterVersion}
-use Rattle.pbs_text.specs.places.Places.{InDecls, WantsInput, AfterInputName, WantsWidth, AfterInput, WantsName}
-use Rattle.pbs_text.specs.places.Places.{AfterName, AfterLevel, AfterLevelName, AfterLevelEquals, AfterLevelBit}
-use Rattle.pbs_text.specs.places.Places.{InLevel, AfterSetName, AfterSetColon, AfterSetBit, AfterProd, AfterProdName}
-use Rattle.pbs_text.specs.places.Places.{AfterMain, WantsItem, WantsGroup, InGroup, InCurly, AfterActionName}
-use Rattle.pbs_text.specs.places.Places.{AfterHold, AfterGuard, AfterBody, AfterTrap, AfterPrim, WantsLeast}
-use Rattle.pbs_text.specs.places.Places.{AfterLeast, WantsMost, AfterMost, AfterItem, WantsUnit, AfterUnitName}
-use Rattle.pbs_text.specs.places.Places.{WantsNumber, AfterUnit, Whole}
+use Rattle.pbs_text.specs.Grammar.{ZeroNumeral, OneNumeral, TwoNumeral, DigitNumeral, LongNumeral, UnitPhrase, Negated}
+use Rattle.pbs_text.specs.Grammar.{Bracketed, Named, Bit, Compared, AllPhrase, TermPhrase, ExprPhrase, ItemPhrase}
+use Rattle.pbs_text.specs.Grammar.{Plain, GroupPhrase, TextPhrase}
+use Rattle.pbs_text.specs.places.Holes.{ExprHole, OfGroup, OfProd, OfMain, SeqHole, FirstSeq, NextSeq, ItemHole}
+use Rattle.pbs_text.specs.places.Holes.{FirstItem, NextItem, GroupHole, AsPrim, OfHold, OfBody, OfTrap, OfAfter}
+use Rattle.pbs_text.specs.places.Holes.{TermHole, OfTerminal, OfGuard, InRound, AllHole, FirstAll, NextAll, UnitHole}
+use Rattle.pbs_text.specs.places.Holes.{UnderNot, FirstUnit, NextUnit, expr_nesting, seq_nesting, item_nesting}
+use Rattle.pbs_text.specs.places.Holes.{group_nesting, term_nesting, all_nesting, unit_nesting}
+use Rattle.pbs_text.specs.places.Places.{NameHole, FirstName, NextName, Place, Start, AfterSpec, AfterVersion, InDecls}
+use Rattle.pbs_text.specs.places.Places.{WantsInput, AfterInputName, WantsWidth, AfterInput, WantsName, AfterName}
+use Rattle.pbs_text.specs.places.Places.{AfterLevel, AfterLevelName, AfterLevelEquals, AfterLevelBit, InLevel}
+use Rattle.pbs_text.specs.places.Places.{AfterSetName, AfterSetColon, AfterSetBit, AfterProd, AfterProdName, AfterMain}
+use Rattle.pbs_text.specs.places.Places.{WantsItem, WantsGroup, InGroup, InCurly, AfterActionName, AfterHold}
+use Rattle.pbs_text.specs.places.Places.{AfterGuard, AfterBody, AfterTrap, AfterPrim, WantsLeast, AfterLeast, WantsMost}
+use Rattle.pbs_text.specs.places.Places.{AfterMost, AfterItem, WantsUnit, AfterUnitName, WantsNumber, AfterUnit, Whole}
 use Rattle.pbs_text.specs.places.Steps.{second, unit_hole, unit_all, with_unit, with_group, with_all, term_hole}
 use Rattle.pbs_text.specs.places.Steps.{seq_hole, expr_hole, with_name, close_round, close_square, close_group}
 use Rattle.pbs_text.specs.places.Steps.{close_expr, end_unit, start_item, end_item, step, walk}
+use Rattle.pbs_text.specs.Nesting.{Opened, Round, Waiting, closed, behind, opened_from, opened}
 use Rattle.pbs_text.specs.Refusals.{refusal}
 use Rattle.pbs_text.specs.places.Reading.{is_too_deep, stepped, bind, read}
+use Rattle.pbs_grammar.proofs.Walks.{at_some}
 
 -- ---- what is open
-
--- a `(` that is open, and a `~` whose operand hasn't ended
-pub data Opened : Type 0 where
-  Round : Opened
-  Waiting : Opened
-
--- an operand has ended
-abbrev pub closed : List Opened → List Opened
-closed [] = []
-closed (Waiting ∷ s) = closed s
-closed (Round ∷ s) = Round ∷ s
-
-abbrev pub outside : List Opened → List Opened
-outside [] = []
-outside (x ∷ s) = s
-
--- what is open behind a token
-abbrev pub behind : TokenKind → List Opened → List Opened
-behind Tilde s = Waiting ∷ s
-behind OpenRound s = Round ∷ s
-behind CloseRound s = closed (outside s)
-behind Name s = closed s
-behind Zero s = closed s
-behind One s = closed s
-behind Two s = closed s
-behind (Digit n) s = closed s
-behind (Number n) s = closed s
-behind _ s = s
 
 -- the token opens a 65th construct
 abbrev pub is_over : TokenKind → List Opened → Bool
@@ -122,27 +95,27 @@ abbrev mutual
   opened_unit (FirstUnit h) = opened_all h
   opened_unit (NextUnit a at h) = opened_all h
 
-abbrev opened : Place → List Opened
-opened (WantsItem h) = opened_item h
-opened (WantsGroup g) = opened_group g
-opened (InGroup at g) = Round ∷ opened_group g
-opened (InCurly at h) = opened_item h
-opened (AfterActionName at n h) = opened_item h
-opened (AfterHold at h) = opened_item h
-opened (AfterGuard at o t c h) = opened_item h
-opened (AfterBody at body h) = opened_item h
-opened (AfterTrap at body a trap h) = opened_item h
-opened (AfterPrim p h) = opened_item h
-opened (WantsLeast s p o h) = opened_item h
-opened (AfterLeast s p o m a h) = opened_item h
-opened (WantsMost s p o m a c h) = opened_item h
-opened (AfterMost s p o m a c n b h) = opened_item h
-opened (AfterItem i h) = opened_item h
-opened (WantsUnit h) = opened_unit h
-opened (AfterUnitName at h) = closed (opened_unit h)
-opened (WantsNumber s at e h) = closed (opened_unit h)
-opened (AfterUnit a h) = opened_all h
-opened _ = []
+abbrev pub opened_at : Place → List Opened
+opened_at (WantsItem h) = opened_item h
+opened_at (WantsGroup g) = opened_group g
+opened_at (InGroup at g) = Round ∷ opened_group g
+opened_at (InCurly at h) = opened_item h
+opened_at (AfterActionName at n h) = opened_item h
+opened_at (AfterHold at h) = opened_item h
+opened_at (AfterGuard at o t c h) = opened_item h
+opened_at (AfterBody at body h) = opened_item h
+opened_at (AfterTrap at body a trap h) = opened_item h
+opened_at (AfterPrim p h) = opened_item h
+opened_at (WantsLeast s p o h) = opened_item h
+opened_at (AfterLeast s p o m a h) = opened_item h
+opened_at (WantsMost s p o m a c h) = opened_item h
+opened_at (AfterMost s p o m a c n b h) = opened_item h
+opened_at (AfterItem i h) = opened_item h
+opened_at (WantsUnit h) = opened_unit h
+opened_at (AfterUnitName at h) = closed (opened_unit h)
+opened_at (WantsNumber s at e h) = closed (opened_unit h)
+opened_at (AfterUnit a h) = opened_all h
+opened_at _ = []
 
 -- ---- it is as deep as the nesting says
 
@@ -218,19 +191,19 @@ ended_unit (UnderNot at h) = ended_unit h
 ended_unit (FirstUnit h) = ended_all h
 ended_unit (NextUnit a at h) = ended_all h
 
-of_unit : {two : Bool} (h : UnitHole two) (u : UnitPhrase two) → opened (with_unit h u) ≡ closed (opened_unit h)
+of_unit : {two : Bool} (h : UnitHole two) (u : UnitPhrase two) → opened_at (with_unit h u) ≡ closed (opened_unit h)
 of_unit (UnderNot at h) u = of_unit h (Negated at u)
 of_unit (FirstUnit h) u = ended_all h
 of_unit (NextUnit a at h) u = ended_all h
 
-of_group : {two : Bool} (h : GroupHole two) (g : GroupPhrase two) → opened (with_group h g) ≡ opened_group h
+of_group : {two : Bool} (h : GroupHole two) (g : GroupPhrase two) → opened_at (with_group h g) ≡ opened_group h
 of_group (AsPrim h) g = refl
 of_group (OfHold at o t c colon h) g = refl
 of_group (OfBody at h) g = refl
 of_group (OfTrap at body a h) g = refl
 of_group (OfAfter at body a trap th h) g = refl
 
-of_name : {two : Bool} (h : NameHole two) (n : Span) → opened (with_name h n) ≡ []
+of_name : {two : Bool} (h : NameHole two) (n : Span) → opened_at (with_name h n) ≡ []
 of_name (FirstName f at) n = refl
 of_name (NextName f at ns c) n = refl
 
@@ -250,7 +223,7 @@ in_expr (NextSeq e at h) = refl
 
 -- the token is too deep where it would be over, and the place has open what is open behind it
 abbrev OpensBy : Bool → List Opened → TokenKind → Place → Type 0
-OpensBy deep s k q = (deep ≡ is_over k s) × (opened q ≡ behind k s)
+OpensBy deep s k q = (deep ≡ is_over k s) × (opened_at q ≡ behind k s)
 
 mapped : {A : Type 0} (o : Option A) (f : A → Place) (P : Place → Type 0) → ((x : A) → P (f x))
     → IfSome (option_map f o) P
@@ -310,11 +283,11 @@ deep_now : (m n : ℕ) → m ≡ n → nat_lt 63 m ≡ nat_lt 63 n
 deep_now m n e = ap (λ k. nat_lt 63 k) e
 
 of_number : {two : Bool} (h : UnitHole two) (u : UnitPhrase two)
-    → opened (with_unit h u) ≡ closed (closed (opened_unit h))
+    → opened_at (with_unit h u) ≡ closed (closed (opened_unit h))
 of_number h u = of_unit h u ∙ sym (closed-twice (opened_unit h))
 
 step-opens : (p : Place) (k : TokenKind) (at : Span)
-    → IfSome (step p k at) (OpensBy (is_too_deep p k) (opened p) k)
+    → IfSome (step p k at) (OpensBy (is_too_deep p k) (opened_at p) k)
 step-opens Start SpecWord at = (refl, refl)
 step-opens (AfterSpec a) One at = (refl, refl)
 step-opens (AfterSpec a) Two at = (refl, refl)
@@ -399,32 +372,51 @@ step-opens (AfterUnit a h) CloseRound at = end_unit-opens a h CloseRound at _ re
 step-opens (AfterUnit a h) CloseSquare at = end_unit-opens a h CloseSquare at _ refl
 step-opens _ _ _ = tt
 
+-- ---- a walk
+
+walk-opens : (ts : List Token) (p q : Place) → walk p ts ≡ Some q → opened_at q ≡ opened_from (opened_at p) ts
+walk-opens [] p q e = let same : p ≡ q = cc in ap opened_at (sym same)
+walk-opens (t ∷ ts) p q e =
+    let x = at_some (step p t.kind t.span) (λ r. walk r ts) _ q (step-opens p t.kind t.span) e in
+    walk-opens ts x.0 q x.2 ∙ ap (λ s. opened_from s ts) x.3.1
+
+-- behind a walk from the start the same is open as behind its tokens
+pub walk-opened : (ts : List Token) (p : Place) → walk Start ts ≡ Some p → opened_at p ≡ opened ts
+walk-opened ts p e = walk-opens ts Start p e
+
+-- so a token that may stand there is too deep exactly where it would be over
+pub deep-over : (ts : List Token) (k : TokenKind) (at : Span) (p q : Place) → walk Start ts ≡ Some p
+    → step p k at ≡ Some q → is_too_deep p k ≡ is_over k (opened ts)
+deep-over ts k at p q e s =
+    let opens = subst (λ o. IfSome o (OpensBy (is_too_deep p k) (opened_at p) k)) s (step-opens p k at) in
+    opens.0 ∙ ap (is_over k) (walk-opened ts p e)
+
 -- ---- reading
 
 -- tokens that are read are shallow
-read_shallow : (end : ℕ) (ts : List Token) (p : Place) (w : TextPhrase) → read end p ts ≡ Ok w → Shallow (opened p) ts
+read_shallow : (end : ℕ) (ts : List Token) (p : Place) (w : TextPhrase) → read end p ts ≡ Ok w → Shallow (opened_at p) ts
 read_shallow end [] p w e = tt
 read_shallow end (t ∷ ts) p w e =
     by (λ q. read_shallow end ts q w) (is_too_deep p t.kind) (step p t.kind t.span) refl (step-opens p t.kind t.span) e
   where
-    by : ((q : Place) → read end q ts ≡ Ok w → Shallow (opened q) ts) → (b : Bool) (o : Option Place)
-        → is_too_deep p t.kind ≡ b → IfSome o (OpensBy (is_too_deep p t.kind) (opened p) t.kind)
+    by : ((q : Place) → read end q ts ≡ Ok w → Shallow (opened_at q) ts) → (b : Bool) (o : Option Place)
+        → is_too_deep p t.kind ≡ b → IfSome o (OpensBy (is_too_deep p t.kind) (opened_at p) t.kind)
         → bind (λ q. read end q ts) (cond b (Err (refusal 4 t.span)) (stepped o t.span)) ≡ Ok w
-        → Shallow (opened p) (t ∷ ts)
+        → Shallow (opened_at p) (t ∷ ts)
     by on true o d opens e = absurd cc
     by on false None d opens e = absurd cc
     by on false (Some q) d opens e = (sym opens.0 ∙ d, subst (λ s. Shallow s ts) opens.1 (on q e))
 
 -- and a text whose tokens are shallow is read
 shallow_read : (end : ℕ) (ts : List Token) (p : Place) (w : TextPhrase) → walk p ts ≡ Some (Whole w)
-    → Shallow (opened p) ts → read end p ts ≡ Ok w
+    → Shallow (opened_at p) ts → read end p ts ≡ Ok w
 shallow_read end [] p w e s = let same : p ≡ Whole w = cc in rw same refl
 shallow_read end (t ∷ ts) p w e s =
     by (λ q. shallow_read end ts q w) (is_too_deep p t.kind) (step p t.kind t.span) refl (step-opens p t.kind t.span) e
   where
-    by : ((q : Place) → walk q ts ≡ Some (Whole w) → Shallow (opened q) ts → read end q ts ≡ Ok w) → (b : Bool)
+    by : ((q : Place) → walk q ts ≡ Some (Whole w) → Shallow (opened_at q) ts → read end q ts ≡ Ok w) → (b : Bool)
         (o : Option Place)
-        → is_too_deep p t.kind ≡ b → IfSome o (OpensBy (is_too_deep p t.kind) (opened p) t.kind)
+        → is_too_deep p t.kind ≡ b → IfSome o (OpensBy (is_too_deep p t.kind) (opened_at p) t.kind)
         → option_and_then (λ q. walk q ts) o ≡ Some (Whole w)
         → bind (λ q. read end q ts) (cond b (Err (refusal 4 t.span)) (stepped o t.span)) ≡ Ok w
     by on b None d opens e = absurd cc

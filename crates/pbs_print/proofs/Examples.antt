@@ -18,11 +18,11 @@ use Rattle.pbs_text.specs.places.Reading.{read}
 use Rattle.pbs_text.specs.Lexing.{tokens, lex}
 use Rattle.pbs_print.specs.Canonical.{canonical}
 use Rattle.pbs_print.proofs.JoinedPieces.{text-all, text-choice}
-use Rattle.pbs_round.specs.Unspanned.{unspanned, unspanned_term, unspanned_kind, unspanned_expr, no_span}
+use Rattle.pbs_print.specs.Unspanned.{unspanned, unspanned_term, unspanned_kind, unspanned_expr, no_span}
 use Rattle.pbs_ast.specs.declared.syntax.SpecTerm as term
 use Rattle.pbs_ast.specs.declared.syntax.Kind as kind
-use Rattle.pbs_round.proofs.TermPhrases as terms
-use Rattle.pbs_round.proofs.ExprPhrases as exprs
+use Rattle.pbs_print.proofs.TermPhrases as terms
+use Rattle.pbs_print.proofs.ExprPhrases as exprs
 
 -- the specification has this canonical text, and this is the text's phrase and stands for the specification
 record ReadsAs (spec : Spec) (text : List ℕ) (phrase : TextPhrase) : Type 0 where
