@@ -1,0 +1,3 @@
+pub mod BareRows
+pub mod BareTwice
+pub mod Items

@@ -1,19 +1,17 @@
 -- One rule after another.
-use Rattle.std.proofs.Common.{◌≡◌, ◌<◌, ◌+◌, ℕ, ◌⊎◌, inl, inr, Option, Some, None, refl, sym}
-use Rattle.std.proofs.Common.{subst, ◌∙◌, arith}
+use Rattle.std.proofs.Common.{◌≡◌, ◌<◌, ◌+◌, ℕ, inl, inr, Option, Some, None, refl, sym, subst, ◌∙◌, arith}
 use Rattle.std.specs.Prelude.{Result, Ok, Err, OnOk}
 use Rattle.std.specs.Result.{IsErrAnd}
-use Rattle.std.proofs.lemmas.Bool.Decides.{eqb_tells}
 use Rattle.pbs_base.specs.declared.refusal.Span.{Span}
 use Rattle.pbs_base.specs.declared.refusal.Refusal.{Refusal}
 use Rattle.pbs_base.specs.declared.refusal.Subject.TheVariants as Subject
 use Rattle.pbs_ast.specs.declared.syntax.Spec.{Spec}
-use Rattle.pbs_rules.specs.Moving.{Rule9, Rule10}
+use Rattle.pbs_names.specs.StarsAndScopes.{Rule9, Rule10}
 use Rattle.pbs_check.specs.declared.failure.Check.{Check}
 use Rattle.pbs_check.specs.declared.failure.Check.TheVariants as answers
 use Rattle.pbs_check.specs.declared.uses.Tables.{Tables}
-use Rattle.pbs_check.specs.Checked.{IsBroken, By5, By6, By7, By8, By9, By10, By11, By18, By19, IsUnbroken}
-use Rattle.pbs_check.specs.Checked.{IsFailure, Checks}
+use Rattle.pbs_check.specs.Checked.{IsBroken, By5, By6, By7, By8, By9, By10, By11, By18, By19, IsUnbroken, IsFailure}
+use Rattle.pbs_check.specs.Checked.{Checks}
 use Rattle.pbs_check.specs.inner.Stages.{KeepsBelow, ChecksTo, refuse}
 use Rattle.pbs_check.specs.Declaring.{Rule5, Rule11}
 use Rattle.pbs_check.specs.Least.{IsLeast}
@@ -22,7 +20,7 @@ use Rattle.pbs_check.specs.inner.Facts.{known_of}
 use Rattle.pbs_check.specs.inner.Truth.{IsStuck, IsKnown, Settles}
 use Rattle.pbs_check.specs.Using.{Rule6, Rule7, Rule18, Rule19}
 use Rattle.pbs_check.proofs.KnownLemmas.{every_known}
-use Rattle.pbs_check.proofs.LeastLemmas.{least_same}
+use Rattle.pbs_check.proofs.LeastLemmas.{least_same, below_cases}
 use Rattle.pbs_check.proofs.RecursionLemmas.{are_first, is_known}
 
 of_5 : {spec : Spec} {s : Span} → IsBroken spec 5 s → Rule5 spec s
@@ -93,12 +91,6 @@ keeps_5 spec = record { kept = λ rule span few broken. never few broken }
     never few (By11 r) = omega (arith, few)
     never few (By18 r) = omega (arith, few)
     never few (By19 r) = omega (arith, few)
-
-below_cases : (m n : ℕ) → m < n + 1 → (m < n) ⊎ (m ≡ n)
-below_cases m n few = elim (eqb_tells m n) [
-  | inl (_, same) ↦ inr same
-  | inr (_, other) ↦ inl (omega (arith, few, other))
-]
 
 keeps_next : (spec : Spec) (n : ℕ) → KeepsBelow spec n → ((s : Span) → IsBroken spec n s → ⊥) → KeepsBelow spec (n + 1)
 keeps_next spec n keeps none = record {

@@ -8,7 +8,7 @@ use Rattle.pbs_base.specs.declared.refusal.Span.{Span}
 use Rattle.pbs_ast.specs.declared.syntax.Decl.{Decl}
 use Rattle.pbs_ast.specs.declared.syntax.Level.{Level}
 use Rattle.pbs_ast.specs.declared.syntax.Spec.{Spec}
-use Rattle.pbs_rules.specs.Naming.{inputs_of, input_names}
+use Rattle.pbs_names.specs.Naming.{inputs_of, input_names}
 use Rattle.pbs_check.specs.Declaring.{Twice, declared_names, listed, Rule5, DeclaredTwice, ListedTwice, Rule11}
 use Rattle.pbs_check.specs.Declaring.{TooManyInputs, TooManyActions, TooManyLevels}
 use Rattle.pbs_check.specs.Least.{span_le, IsLeast, least_of, least_by}
@@ -40,7 +40,7 @@ data Passes (n : ℕ) (ds : List Decl) (s : Span) : Type 0 where
   At : (i : ℕ) {d : Decl} → slice_get ds i ≡ Some d → n + length (input_names (take i ds)) ≤ 64
       → 64 < n + length (input_names (take (suc i) ds)) → d.span ≡ s → Passes n ds s
 
-head_count : (d : Decl) (ds : List Decl) → length (input_names (d ∷ ds)) ≡ length (inputs_of d) + length
+pub head_count : (d : Decl) (ds : List Decl) → length (input_names (d ∷ ds)) ≡ length (inputs_of d) + length
     (input_names ds)
 head_count d ds = length-append (inputs_of d) (input_names ds)
 

@@ -7,8 +7,7 @@ use Rattle.pbs_ast.specs.declared.syntax.Kind.{items_hidden-the_row-Expr-0}
 use Rattle.pbs_ast.specs.declared.syntax.Kind.TheBlock.{hidden-the_row-Expr-0}
 use Rattle.pbs_check.specs.declared.facts.Facts.{Facts}
 use Rattle.pbs_check.specs.inner.Facts.{fact, after, either, choice_of, kind_facts, row_all, row_any, expr_facts}
-use Rattle.pbs_check.specs.inner.Facts.{all_facts}
-use Rattle.pbs_check.specs.inner.Facts.{any_facts}
+use Rattle.pbs_check.specs.inner.Facts.{all_facts, any_facts}
 use Rattle.pbs_check.proofs.WalkLemmas.{item_at}
 
 and_assoc : (a b c : Bool) → ((a && b) && c) ≡ (a && (b && c))
@@ -37,22 +36,6 @@ either_assoc (Some a) (Some b) None = refl
 either_assoc (Some a) (Some b) (Some c) =
     same_fact _ _ _ _ _ _ (or_assoc a.may_be_empty b.may_be_empty c.may_be_empty)
     (or_assoc a.has_terminal b.has_terminal c.has_terminal) (or_assoc a.is_busy b.is_busy c.is_busy)
-
-or_false : (a : Bool) → (a || false) ≡ a
-or_false true = refl
-or_false false = refl
-
-and_true : (a : Bool) → (a && true) ≡ a
-and_true true = refl
-and_true false = refl
-
-pub after_unit : (a : Option Facts) → after a (Some (fact true false false)) ≡ a
-after_unit None = refl
-after_unit (Some a) = same_fact _ _ _ _ _ _ (and_true a.may_be_empty) (or_false a.has_terminal) (or_false a.is_busy)
-
-pub either_unit : (a : Option Facts) → either a (Some (fact false false false)) ≡ a
-either_unit None = refl
-either_unit (Some a) = same_fact _ _ _ _ _ _ (or_false a.may_be_empty) (or_false a.has_terminal) (or_false a.is_busy)
 
 -- one item more
 pub after_step : (known : List ℕ → Option Facts) (es : List Expr) (i : ℕ) (e : Expr) (old new more : Option Facts)

@@ -3,23 +3,22 @@ use Rattle.std.proofs.Common.{◌≡◌, ◌⊎◌, inl, inr, ℕ, Bool, true, f
 use Rattle.std.proofs.Common.{nat_eq, refl, sym, ap, subst, ◌∙◌, arith}
 use Rattle.std.specs.Prelude.{Contains}
 use Rattle.std.proofs.lemmas.Bool.Decides.{nat_tests}
+use Rattle.pbs_ast.proofs.Items.{first_item, later_item, no_item, item_cases}
 use Rattle.pbs_base.specs.declared.refusal.Span.{Span}
 use Rattle.pbs_ast.specs.declared.syntax.Expr.{Expr}
 use Rattle.pbs_ast.specs.declared.syntax.Prod.{Prod}
 use Rattle.pbs_ast.specs.declared.syntax.SpecTerm.{SpecTerm}
 use Rattle.pbs_ast.specs.declared.syntax.Kind as kind
-use Rattle.pbs_rules.specs.Naming.{body_of}
-use Rattle.pbs_rules.specs.Forms as forms
-use Rattle.pbs_rules.specs.Forms.{Form, form, form_of, parts}
-use Rattle.pbs_rules.specs.Reach.{Itself, InPart, InProd, HasTerminal, HasAction, HasScope}
-use Rattle.pbs_rules.specs.Reach.{MayBeEmpty, EmptyMay, ActionMay, AllMay, SomeMay, NoneMay, StarMay, PlusMay, OptMay}
-use Rattle.pbs_rules.specs.Reach.{HoldMay, ScopeMay, NameMay, UnknownMay, NoCopyMay, CopiesMay}
+use Rattle.pbs_names.specs.Naming.{body_of}
+use Rattle.pbs_names.specs.Forms as forms
+use Rattle.pbs_names.specs.Forms.{Form, form, form_of, parts}
+use Rattle.pbs_names.specs.Reach.{Itself, InPart, InProd, HasTerminal, HasAction, HasScope, MayBeEmpty, EmptyMay}
+use Rattle.pbs_names.specs.Reach.{ActionMay, AllMay, SomeMay, NoneMay, StarMay, PlusMay, OptMay, HoldMay, ScopeMay}
+use Rattle.pbs_names.specs.Reach.{NameMay, UnknownMay, NoCopyMay, CopiesMay}
 use Rattle.pbs_check.specs.declared.facts.Facts.{Facts}
 use Rattle.pbs_check.specs.inner.Facts.{fact, after, either, or_empty, scope_of, choice_of, kind_facts, expr_facts}
-use Rattle.pbs_check.specs.inner.Facts.{all_facts}
-use Rattle.pbs_check.specs.inner.Facts.{any_facts}
+use Rattle.pbs_check.specs.inner.Facts.{all_facts, any_facts}
 use Rattle.pbs_check.specs.inner.Truth.{Decided, IsBusy, FactsAre, Knows}
-use Rattle.pbs_check.proofs.LeastLemmas.{first_item, later_item, no_item, item_cases}
 use Rattle.pbs_check.proofs.StandLemmas.{every}
 use Rattle.pbs_check.proofs.FactLemmas.{row_all_is, row_any_is}
 

@@ -1,18 +1,17 @@
 -- The table of uses.
-use Rattle.std.proofs.Common.{◌≡◌, ◌<◌, ◌≢◌, ◌+◌, ℕ, zero, suc, ◌⊎◌, inl, inr, List, [], ◌∷◌, ◌++◌, map, length, drop}
+use Rattle.std.proofs.Common.{◌≡◌, ◌<◌, ◌≢◌, ◌+◌, ℕ, zero, suc, ◌⊎◌, inl, inr, List, [], ◌∷◌, ◌++◌, length, drop}
 use Rattle.std.proofs.Common.{get_or, set, Option, Some, refl, sym, ap, subst, ◌∙◌, arith, append_assoc}
 use Rattle.std.specs.Global.{Vec}
 use Rattle.std.specs.Prelude.{Contains, slice_get, Result, Ok, Err, OnOk}
 use Rattle.std.proofs.lemmas.Bool.Decides.{eqb_tells}
 use Rattle.std.proofs.lemmas.List.Elements.{Contains-append_cases, Contains-append_left, Contains-append_right}
+use Rattle.pbs_ast.proofs.Items.{first_item, no_item, item_cases}
 use Rattle.pbs_ast.specs.declared.syntax.Expr.{Expr}
-use Rattle.pbs_ast.specs.declared.syntax.Prod.{Prod}
 use Rattle.pbs_ast.specs.declared.syntax.Kind.{Seq, Choice}
-use Rattle.pbs_rules.specs.Forms.{form, form_of}
+use Rattle.pbs_names.specs.Forms.{form, form_of}
 use Rattle.pbs_check.specs.declared.graph.Link.{Link}
-use Rattle.pbs_check.specs.inner.Links.{own_links, links_in, links_of, HasNext, By}
+use Rattle.pbs_check.specs.inner.Links.{own_links, links_in, HasNext, By}
 use Rattle.pbs_check.specs.inner.Walking.{below_kind, inside, inside_all}
-use Rattle.pbs_check.proofs.LeastLemmas.{first_item, no_item, item_cases}
 use Rattle.pbs_check.proofs.WalkLemmas.{item_at, below_seq, below_choice}
 
 pub on_ok : {X E : Type 0} {P Q : Type 0} (r : Result X E) → OnOk r P → (P → Q) → OnOk r Q
@@ -116,16 +115,3 @@ user_only users used user old new within is grown k u (By {v = v} at here) = eli
 ]
 
 -- ---- the table of uses
-pub uses_step : (number : List ℕ → Option ℕ) (ps : List Prod) (i : ℕ) (p : Prod) (old new all : List (List Link))
-    (links : Vec Link) → i < length ps → p ≡ get_or ps i p
-    → old ++ map (links_of number) (drop i ps) ≡ all → links.items ≡ links_of number p → new ≡ old ++ links.items ∷ []
-    → new ++ map (links_of number) (drop (i + 1) ps) ≡ all
-uses_step number ps i p old new all links within is so_far made grown =
-    ap (λ xs. xs ++ map (links_of number) (drop (i + 1) ps)) (grown ∙ ap (λ ls. old ++ ls ∷ []) made)
-    ∙ append_assoc old (links_of number p ∷ []) (map (links_of number) (drop (i + 1) ps))
-    ∙ ap (λ xs. old ++ xs) (sym (ap (map (links_of number)) (item_at ps i p within is))) ∙ so_far
-
-pub items_append : {X : Type 0} (xs : List (Vec X)) (x : Vec X)
-    → map (λ (v : Vec X). v.items) (xs ++ x ∷ []) ≡ map (λ (v : Vec X). v.items) xs ++ x.items ∷ []
-items_append [] x = refl
-items_append (y ∷ xs) x = ap (λ zs. y.items ∷ zs) (items_append xs x)

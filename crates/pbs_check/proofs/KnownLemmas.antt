@@ -2,14 +2,15 @@
 use Rattle.std.proofs.Common.{◌≡◌, ◌≤◌, ◌+◌, ℕ, zero, suc, Bool, true, ◌⊎◌, inl, inr, List, [], ◌∷◌, length, Option}
 use Rattle.std.proofs.Common.{Some, None, nat_eq, refl, sym, ap, subst, ◌∙◌, arith}
 use Rattle.std.specs.Prelude.{Contains}
+use Rattle.pbs_ast.proofs.Items.{first_item, later_item, no_item, item_cases}
 use Rattle.pbs_base.specs.declared.refusal.Span.{Span}
 use Rattle.pbs_ast.specs.declared.syntax.Expr.{Expr}
 use Rattle.pbs_ast.specs.declared.syntax.Prod.{Prod}
 use Rattle.pbs_ast.specs.declared.syntax.Spec.{Spec}
 use Rattle.pbs_ast.specs.declared.syntax.Kind as kind
-use Rattle.pbs_rules.specs.Forms as forms
-use Rattle.pbs_rules.specs.Forms.{Form, form, form_of, parts, Stands, OfMain, OfProd}
-use Rattle.pbs_rules.specs.Naming.{index_of, prod_names}
+use Rattle.pbs_names.specs.Forms as forms
+use Rattle.pbs_names.specs.Forms.{Form, form, form_of, parts, Stands, OfMain, OfProd}
+use Rattle.pbs_names.specs.Naming.{index_of, prod_names}
 use Rattle.pbs_check.specs.declared.facts.Facts.{Facts}
 use Rattle.pbs_check.specs.declared.uses.Wanted.TheVariants as wanted
 use Rattle.pbs_check.specs.inner.Facts.{after, either, or_empty, scope_of, choice_of, kind_facts, expr_facts, all_facts}
@@ -17,7 +18,6 @@ use Rattle.pbs_check.specs.inner.Facts.{any_facts}
 use Rattle.pbs_check.specs.Recursion.{IsWithin, Whole, OfPart, UsesAt, Here, Reaches, Arrived, Rule8, Recursive}
 use Rattle.pbs_check.specs.inner.Truth.{AreFirst, IsStuck, AreKnown}
 use Rattle.pbs_check.specs.Using.{use_of, own_uses, IsUse, InExpr, Rule6, NotDeclared, Rule7, WrongKind}
-use Rattle.pbs_check.proofs.LeastLemmas.{first_item, later_item, no_item, item_cases}
 use Rattle.pbs_check.proofs.FactLemmas.{row_all_is, row_any_is}
 use Rattle.pbs_check.proofs.NamedLemmas.{found, absent}
 use Rattle.pbs_check.proofs.RecursionLemmas.{reach_on}

@@ -1,10 +1,10 @@
 -- What holds of a specification that breaks none of the rules.
 use Rattle.std.proofs.Common.{◌≡◌, ◌≤◌, ◌<◌, ◌+◌, ℕ, zero, suc, Bool, true, false, ◌⊎◌, inl, inr, List, [], ◌∷◌, ◌++◌}
 use Rattle.std.proofs.Common.{map, length, Option, Some, None, nat_lt, nat_eq, refl, sym, ap, subst, ◌∙◌, arith}
-use Rattle.std.proofs.Common.{length-append}
 use Rattle.std.specs.Prelude.{if◌then◌else◌, slice_get, Contains}
 use Rattle.std.specs.Option.{option_map}
 use Rattle.std.proofs.lemmas.Bool.Decides.{nat_tests}
+use Rattle.pbs_ast.proofs.Items.{first_item, later_item, item_cases}
 use Rattle.pbs_base.specs.declared.refusal.Span.{Span}
 use Rattle.pbs_base.specs.declared.refusal.Refusal.{Refusal}
 use Rattle.pbs_base.specs.declared.refusal.Subject.{Subject}
@@ -12,16 +12,15 @@ use Rattle.pbs_base.specs.Words.{AreDifferent}
 use Rattle.pbs_ast.specs.declared.syntax.Decl.{Decl}
 use Rattle.pbs_ast.specs.declared.syntax.Prod.{Prod}
 use Rattle.pbs_ast.specs.declared.syntax.Spec.{Spec}
-use Rattle.pbs_rules.specs.Naming.{inputs_of, input_names, action_names, prod_names, bit_names}
+use Rattle.pbs_names.specs.Naming.{inputs_of, input_names, action_names, prod_names, bit_names}
 use Rattle.pbs_check.specs.declared.named.Named.{Named}
 use Rattle.pbs_check.specs.Checked.{IsBroken, By5, By11, IsFirst, IsUnbroken}
 use Rattle.pbs_check.specs.Declaring.{named, declared_by, declared_inputs, declared_actions, declared_levels}
-use Rattle.pbs_check.specs.Declaring.{declared_prods, declared_names, Twice, First, Further, DeclaredTwice}
-use Rattle.pbs_check.specs.Declaring.{Rule5, Rule11, TooManyActions, TooManyLevels}
+use Rattle.pbs_check.specs.Declaring.{declared_prods, declared_names, Twice, First, Further, DeclaredTwice, Rule5}
+use Rattle.pbs_check.specs.Declaring.{Rule11, TooManyActions, TooManyLevels}
 use Rattle.pbs_check.specs.Least.{span_le, later_span, IsLeast, least_of}
 use Rattle.pbs_check.specs.inner.Stages.{over_inputs, found_over}
-use Rattle.pbs_check.proofs.DeclaringRules.{rule_11_is}
-use Rattle.pbs_check.proofs.LeastLemmas.{first_item, later_item, item_cases}
+use Rattle.pbs_check.proofs.DeclaringRules.{rule_11_is, head_count}
 
 -- ---- at most 64
 past : {X : Type 0} (xs : List X) → ((x : X) → slice_get xs 64 ≡ Some x → ⊥) → length xs ≤ 64
@@ -41,10 +40,6 @@ past {X = X} xs none = chosen (nat_lt 64 (length xs)) refl
     chosen : (b : Bool) → nat_lt 64 (length xs) ≡ b → length xs ≤ 64
     chosen true h = let x = there xs 64 (over (length xs) h) in absurd (none x.0 x.1)
     chosen false h = few (length xs) h
-
-head_count : (d : Decl) (ds : List Decl) → length (input_names (d ∷ ds)) ≡ length (inputs_of d) + length
-    (input_names ds)
-head_count d ds = length-append (inputs_of d) (input_names ds)
 
 counted : (n : ℕ) (ds : List Decl) → n ≤ 64 → over_inputs n ds ≡ None → n + length (input_names ds) ≤ 64
 counted n [] few is = omega (arith, few)

@@ -1,18 +1,18 @@
 -- Productions that are learnt, and those of which nothing can be.
-use Rattle.std.proofs.Common.{◌≡◌, ◌≤◌, ◌<◌, ◌+◌, ℕ, ◌==◌, Bool, true, false, not, cond, inl, inr, List, []}
-use Rattle.std.proofs.Common.{◌∷◌, length, take, get_or, Option, Some, None, refl, sym, ap, subst, ◌∙◌, arith}
+use Rattle.std.proofs.Common.{◌≡◌, ◌≤◌, ◌<◌, ◌+◌, ℕ, ◌==◌, Bool, true, false, not, cond, inl, inr, List, [], ◌∷◌}
+use Rattle.std.proofs.Common.{length, take, get_or, Option, Some, None, refl, sym, ap, subst, ◌∙◌, arith}
 use Rattle.std.specs.Prelude.{Contains}
 use Rattle.std.specs.List.{count_by}
 use Rattle.std.specs.Option.{is_some}
 use Rattle.std.specs.Cmp.Lexicographic.{pointwise}
 use Rattle.std.proofs.lemmas.Cmp.{nat_list_eq_equiv}
 use Rattle.std.proofs.lemmas.List.Sums.{sum_by-cons}
+use Rattle.pbs_ast.proofs.Items.{no_item, item_cases}
 use Rattle.pbs_ast.specs.declared.syntax.Prod.{Prod}
 use Rattle.pbs_check.specs.declared.facts.Facts.{Facts}
 use Rattle.pbs_check.specs.declared.facts.Known.{Known}
 use Rattle.pbs_check.specs.inner.Facts.{known_of, expr_facts}
 use Rattle.pbs_check.specs.inner.Truth.{IsStuck, Settles, unknown_count}
-use Rattle.pbs_check.proofs.LeastLemmas.{no_item, item_cases}
 use Rattle.pbs_check.proofs.UserLemmas.{taken_cases, take_whole}
 
 -- ---- counts

@@ -1,8 +1,9 @@
 -- The least of spans.
-use Rattle.std.proofs.Common.{◌≡◌, zero, suc, subst, map, Bool, true, false, ◌⊎◌, inl, inr, List, [], ◌∷◌, ◌++◌, Option}
-use Rattle.std.proofs.Common.{Some, None, refl, sym, ap, ◌∙◌, arith, IsTrue}
-use Rattle.std.specs.Prelude.{if◌then◌else◌, Contains, Result, Ok, Err, IfOk}
-use Rattle.std.proofs.lemmas.Bool.Decides.{nat_tests}
+use Rattle.std.proofs.Common.{◌≡◌, ℕ, ◌+◌, ◌<◌, subst, map, Bool, true, false, ◌⊎◌, inl, inr, List, [], ◌∷◌, ◌++◌}
+use Rattle.std.proofs.Common.{Option, Some, None, refl, sym, ap, ◌∙◌, arith, IsTrue}
+use Rattle.std.specs.Prelude.{if◌then◌else◌, Contains}
+use Rattle.std.proofs.lemmas.Bool.Decides.{nat_tests, eqb_tells}
+use Rattle.pbs_ast.proofs.Items.{first_item, later_item, no_item, item_cases}
 use Rattle.pbs_base.specs.declared.refusal.Span.{Span}
 use Rattle.pbs_check.specs.Least.{span_le, earlier_span, IsLeast, least_of, least_by}
 
@@ -44,10 +45,6 @@ least_assoc (Some a) None c = refl
 least_assoc (Some a) (Some b) None = refl
 least_assoc (Some a) (Some b) (Some c) = ap Some (earlier_assoc a b c (span_le a b) (span_le b c) refl refl)
 
-pub least_none : (a : Option Span) → least_of a None ≡ a
-least_none None = refl
-least_none (Some a) = refl
-
 pub least_by-append : {X : Type 0} (f : X → Option Span) (xs ys : List X)
     → least_by f (xs ++ ys) ≡ least_of (least_by f xs) (least_by f ys)
 least_by-append f [] ys = refl
@@ -76,20 +73,6 @@ pub two_least : {X : Type 0} (f : X → Option Span) (xs ys : List X) (a b c d a
 two_least f xs ys a b c d ab r p q s both all =
     all ∙ ap (least_of ab) s ∙ ap (λ o. least_of o d) (both ∙ ap (λ o. least_of o b) p
     ∙ ap (least_of (least_by f xs)) q ∙ sym (least_by-append f xs ys))
-
--- ---- items of lists
-pub first_item : {X : Type 0} (x : X) (xs : List X) → Contains (x ∷ xs) x
-first_item x xs = (zero, omega arith, refl)
-
-pub later_item : {X : Type 0} (x : X) (xs : List X) {y : X} → Contains xs y → Contains (x ∷ xs) y
-later_item x xs (k, below, is) = (suc k, omega (arith, below), is)
-
-pub no_item : {X : Type 0} {y : X} → Contains [] y → ⊥
-no_item (k, below, is) = omega (arith, below)
-
-pub item_cases : {X : Type 0} (x : X) (xs : List X) {y : X} → Contains (x ∷ xs) y → (x ≡ y) ⊎ Contains xs y
-item_cases x xs (zero, below, is) = inl is
-item_cases x xs (suc k, below, is) = inr (k, omega (arith, below), is)
 
 -- ---- the least of what is broken
 pub least_either : (P Q R : Span → Type 0) (a b : Option Span) → IsLeast P a → IsLeast Q b → ((s : Span) → P s → R s)
@@ -177,10 +160,6 @@ least_of_none P = λ s p. none p
     none : {s : Span} → OneOf P [] s → ⊥
     none (ByItem here p) = no_item here
 
-pub ok_then : {X E : Type 0} {P Q : X → Type 0} (r : Result X E) → IfOk r P → ((x : X) → P x → Q x) → IfOk r Q
-ok_then (Ok x) p step = step x p
-ok_then (Err e) p step = tt
-
 -- the same where it is known of the list's items alone
 pub least_by_in : {X : Type 0} (P : X → Span → Type 0) (f : X → Option Span) (xs : List X)
     → ((x : X) → Contains xs x → IsLeast (P x) (f x)) → IsLeast (OneOf P xs) (least_by f xs)
@@ -197,3 +176,10 @@ least_by_in {X = X} P f (x ∷ xs) each =
     split {s = s} (ByItem here p) =
         let Q : X → Type 0 = λ z. P z s in elim (item_cases x xs here)
         [ inl same ↦ inl (subst Q (sym same) p) | inr more ↦ inr (ByItem more p) ]
+
+-- what lies below a number and one
+pub below_cases : (m n : ℕ) → m < n + 1 → (m < n) ⊎ (m ≡ n)
+below_cases m n few = elim (eqb_tells m n) [
+  | inl (_, same) ↦ inr same
+  | inr (_, other) ↦ inl (omega (arith, few, other))
+]

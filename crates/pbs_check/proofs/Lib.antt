@@ -1,3 +1,5 @@
+pub mod Alike
+pub mod AlikeUses
 pub mod CheckLemmas
 pub mod CircleLemmas
 pub mod DeclaringRules
@@ -9,11 +11,12 @@ pub mod LawLemmas
 pub mod LearnLemmas
 pub mod LeastLemmas
 pub mod LimitRules
-pub mod MovingRules
+pub mod StarScopeRules
 pub mod NamedLemmas
 pub mod RecursionLemmas
 pub mod RoundLemmas
 pub mod NumberLemmas
+pub mod SameRules
 pub mod SearchLemmas
 pub mod SettleLemmas
 pub mod TargetLemmas

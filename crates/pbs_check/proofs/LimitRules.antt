@@ -8,12 +8,12 @@ use Rattle.pbs_ast.specs.declared.syntax.Decl.{Decl}
 use Rattle.pbs_ast.specs.declared.syntax.Expr.{Expr}
 use Rattle.pbs_ast.specs.declared.syntax.Level.{Level}
 use Rattle.pbs_ast.specs.declared.syntax.Spec.{Spec}
-use Rattle.pbs_rules.specs.declared.buses.Bus.{Bus}
+use Rattle.pbs_names.specs.declared.buses.Bus.{Bus}
 use Rattle.std.specs.Option.{option_map}
 use Rattle.std.specs.Cmp.Lexicographic.{pointwise}
-use Rattle.pbs_rules.specs.Naming.{bus_of, bus_from, inputs_of}
-use Rattle.pbs_rules.specs.Forms as forms
-use Rattle.pbs_rules.specs.Forms.{Form, form, Stands}
+use Rattle.pbs_names.specs.Naming.{bus_of, bus_from, inputs_of}
+use Rattle.pbs_names.specs.Forms as forms
+use Rattle.pbs_names.specs.Forms.{Form, form}
 use Rattle.pbs_check.specs.declared.uses.Look.TheVariants as looks
 use Rattle.pbs_check.specs.declared.uses.Tables.{Tables}
 use Rattle.pbs_check.specs.Least.{span_le, IsLeast, least_by}

@@ -7,10 +7,10 @@ use Rattle.std.specs.Option.{is_some}
 use Rattle.std.specs.Cmp.Lexicographic.{pointwise, same_text}
 use Rattle.std.proofs.lemmas.Bool.{false≢true}
 use Rattle.std.proofs.lemmas.Cmp.{nat_list_eq_equiv}
-use Rattle.pbs_rules.specs.declared.index.Numbers.{Numbers}
-use Rattle.pbs_rules.specs.Naming.{index_of}
-use Rattle.pbs_rules.specs.Numbers.{number_in, IsNumbering}
-use Rattle.pbs_check.proofs.LeastLemmas.{first_item, later_item, no_item, item_cases}
+use Rattle.pbs_ast.proofs.Items.{first_item, later_item, no_item, item_cases}
+use Rattle.pbs_names.specs.declared.index.Numbers.{Numbers}
+use Rattle.pbs_names.specs.Naming.{index_of}
+use Rattle.pbs_names.specs.Numbers.{number_in, IsNumbering}
 
 pub found : (name : List ℕ) (i n : ℕ) (names : List (List ℕ))
     → position_from (λ w. pointwise ◌==◌ w name) i names ≡ Some n → Contains names name

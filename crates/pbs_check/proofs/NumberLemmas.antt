@@ -1,29 +1,30 @@
 -- Productions by their names and by their numbers.
-use Rattle.std.proofs.Common.{◌≡◌, ◌+◌, ℕ, zero, suc, ◌==◌, Bool, true, false, cond, inl, inr, List}
-use Rattle.std.proofs.Common.{[], ◌∷◌, ◌++◌, map, length, Option, Some, None, refl, sym, ap, subst, ◌∙◌, arith}
+use Rattle.std.proofs.Common.{◌≡◌, ◌+◌, ℕ, zero, suc, ◌==◌, Bool, true, false, cond, inl, inr, List, [], ◌∷◌, ◌++◌, map}
+use Rattle.std.proofs.Common.{length, Option, Some, None, refl, sym, ap, subst, ◌∙◌, arith}
 use Rattle.std.specs.Global.{Vec}
 use Rattle.std.specs.Prelude.{Contains, slice_get, if◌then◌else◌}
 use Rattle.std.specs.List.{position_from}
 use Rattle.std.specs.Cmp.Lexicographic.{pointwise, same_text}
 use Rattle.std.proofs.lemmas.Option.{slice_get_within}
 use Rattle.std.proofs.lemmas.List.Elements.{Contains-append_cases, Contains-append_left, Contains-append_right}
+use Rattle.pbs_ast.proofs.Items.{first_item, later_item, no_item, item_cases}
 use Rattle.pbs_base.specs.declared.refusal.Span.{Span}
 use Rattle.pbs_base.specs.Words.{AreDifferent}
 use Rattle.pbs_ast.specs.declared.syntax.Expr.{Expr}
 use Rattle.pbs_ast.specs.declared.syntax.Prod.{Prod}
 use Rattle.pbs_ast.specs.declared.syntax.Spec.{Spec}
-use Rattle.pbs_rules.specs.Forms as forms
-use Rattle.pbs_rules.specs.Forms.{Form, form, parts}
-use Rattle.pbs_rules.specs.Naming.{index_of, prod_names, body_of}
+use Rattle.pbs_names.specs.Forms as forms
+use Rattle.pbs_names.specs.Forms.{Form, form}
+use Rattle.pbs_names.specs.Naming.{index_of, prod_names, body_of}
 use Rattle.pbs_check.specs.declared.graph.Link.{Link}
 use Rattle.pbs_check.specs.Least.{IsLeast}
 use Rattle.pbs_check.specs.inner.Links as links
-use Rattle.pbs_check.specs.inner.Links.{link, link_to, own_links, links_in, links_of, AreLinks, HasUse, At}
-use Rattle.pbs_check.specs.inner.Links.{IsClosed, Leads, Step, IsRecursive, Round, HasRecursion}
+use Rattle.pbs_check.specs.inner.Links.{link, link_to, own_links, links_in, links_of, AreLinks, HasUse, At, IsClosed}
+use Rattle.pbs_check.specs.inner.Links.{Leads, Step, IsRecursive, Round, HasRecursion}
 use Rattle.pbs_check.specs.Recursion.{IsWithin, Whole, OfPart, UsesAt, Here, Reaches, Arrived, ByUse, Rule8, Recursive}
 use Rattle.pbs_check.specs.inner.Truth.{AreFirst}
 use Rattle.pbs_check.specs.inner.Walking.{below, inside}
-use Rattle.pbs_check.proofs.LeastLemmas.{first_item, later_item, no_item, item_cases, least_same}
+use Rattle.pbs_check.proofs.LeastLemmas.{least_same}
 use Rattle.pbs_check.proofs.NamedLemmas.{absent}
 use Rattle.pbs_check.proofs.StandLemmas.{every, deeper, inner}
 

@@ -1,64 +1,34 @@
--- Productions that are settled use each other in no circle.
-use Rattle.std.proofs.Common.{◌≡◌, inl, inr, ℕ, ◌==◌, Bool, true, false, ◌&&◌, ◌++◌, List, [], ◌∷◌, Option, Some, None}
-use Rattle.std.proofs.Common.{refl, sym, ap, subst, ◌∙◌}
+-- Where no name is declared twice and every production is known, every expression is.
+use Rattle.std.proofs.Common.{◌≡◌, inl, inr, ℕ, ◌==◌, Bool, true, false, ◌++◌, List, [], ◌∷◌, Option, Some, refl, sym}
+use Rattle.std.proofs.Common.{ap, subst}
 use Rattle.std.specs.Prelude.{Contains, if◌then◌else◌}
-use Rattle.std.specs.List.{list_all}
-use Rattle.std.specs.Option.{is_some}
 use Rattle.std.specs.Cmp.Lexicographic.{pointwise, same_text}
 use Rattle.std.proofs.lemmas.Cmp.{nat_list_eq_equiv}
+use Rattle.pbs_ast.proofs.Items.{first_item, later_item, no_item, item_cases}
 use Rattle.pbs_base.specs.declared.refusal.Span.{Span}
 use Rattle.pbs_ast.specs.declared.syntax.Expr.{Expr}
 use Rattle.pbs_ast.specs.declared.syntax.Prod.{Prod}
 use Rattle.pbs_ast.specs.declared.syntax.Spec.{Spec}
-use Rattle.pbs_rules.specs.Naming.{body_of}
-use Rattle.pbs_rules.specs.Forms.{Stands, OfMain, OfProd, OfPart}
+use Rattle.pbs_names.specs.Naming.{body_of}
+use Rattle.pbs_names.specs.Forms.{Stands, OfMain, OfProd, OfPart}
 use Rattle.pbs_check.specs.declared.facts.Facts.{Facts}
 use Rattle.pbs_check.specs.declared.uses.Tables.{Tables}
-use Rattle.pbs_check.specs.inner.Facts.{known_of, expr_facts}
-use Rattle.pbs_check.specs.Recursion.{UsesAt, Reaches, Arrived, ByUse, Rule8, Recursive}
-use Rattle.pbs_check.specs.inner.Truth.{IsSettled, Settled, AreFirst, Settles, IsKnown, AreKnown}
+use Rattle.pbs_check.specs.inner.Facts.{known_of}
+use Rattle.pbs_check.specs.Recursion.{UsesAt, Reaches, Arrived, ByUse}
+use Rattle.pbs_check.specs.inner.Truth.{AreFirst, Settles, IsKnown, AreKnown}
 use Rattle.pbs_check.specs.declared.named.Named.{Named}
 use Rattle.pbs_check.specs.Declaring.{named, declared_inputs, declared_actions, declared_levels, declared_prods, Twice}
 use Rattle.pbs_check.specs.Declaring.{First, Further, Rule5, DeclaredTwice}
 use Rattle.pbs_check.specs.Least.{later_span}
-use Rattle.pbs_check.proofs.LeastLemmas.{first_item, later_item, no_item, item_cases}
 use Rattle.pbs_check.proofs.FactTruth.{facts_are}
-use Rattle.pbs_check.proofs.SettleLemmas.{Known, parts_known, use_known}
+use Rattle.pbs_check.proofs.SettleLemmas.{Known, parts_known}
 
 pub reach_on : {prods : List Prod} {to from next : List ℕ} {body : Expr} {span : Span} → Reaches prods to from
     → body_of prods to ≡ Some body → UsesAt body next span → Reaches prods next from
 reach_on Arrived is uses = ByUse is uses Arrived
 reach_on (ByUse here used more) is uses = ByUse here used (reach_on more is uses)
 
-same_body : (prods : List Prod) (name : List ℕ) (b d : Expr) → body_of prods name ≡ Some b → body_of prods name ≡ Some d
-    → d ≡ b
-same_body prods name b d p q = let h : Some d ≡ Some b = sym q ∙ p in cc
-
-pub loop_free : (prods : List Prod) (n : List ℕ) → IsSettled prods n → (body : Expr) (via : List ℕ) (span : Span)
-    → body_of prods n ≡ Some body → UsesAt body via span → Reaches prods n via → ⊥
-loop_free prods n (Settled {body = b} is below) body via span here uses Arrived =
-    let P : Expr → Type 0 = λ e. UsesAt e n span in
-    loop_free prods n (below n span (subst P (same_body prods n b body is here) uses)) body n span here uses Arrived
-loop_free prods n (Settled {body = b} is below) body via span here uses
-    (ByUse {via = w} {body = d} {span = t} there used more) =
-    let P : Expr → Type 0 = λ e. UsesAt e via span in
-    loop_free prods via (below via span (subst P (same_body prods n b body is here) uses)) d w t there used
-    (reach_on more here uses)
-
--- where every production is known, none uses itself by others
-pub no_recursion : (spec : Spec) (known : List ℕ → Option Facts) → AreFirst spec.prods → Settles spec.prods known
-    → AreKnown spec known → (span : Span) → Rule8 spec span → ⊥
-no_recursion spec known are settles all span rule = broken rule
-  where
-    settled : (p : Prod) → Contains spec.prods p → IsSettled spec.prods p.name
-    settled p here = Settled (are.first p here) (λ via at uses. let k = use_known known p.body via at
-        (all.bodies p here) uses in settles.settled via k.0 k.1)
-
-    broken : {s : Span} → Rule8 spec s → ⊥
-    broken (Recursive {p = p} {name = name} {span = at} here uses reaches) = loop_free spec.prods p.name
-        (settled p here) p.body name at (are.first p here) uses reaches
-
--- and every expression of the specification is known
+-- every expression of the specification is known
 stand_known : (spec : Spec) (known : List ℕ → Option Facts) → AreKnown spec known → (e : Expr) → Stands spec e
     → Known known e
 stand_known spec known all e OfMain = all.main
@@ -73,36 +43,6 @@ is_known spec tables settles all = record {
   known = λ e stands. (stand_known spec (known_of tables.known) all e stands).1;
   true_of = λ e stands. let k = stand_known spec (known_of tables.known) all e stands in
       facts_are spec.prods (known_of tables.known) settles.knows e k.0 k.1;
-}
-
-some_of : (o : Option Facts) → is_some o ≡ true → (f : Facts) × (o ≡ Some f)
-some_of (Some f) h = (f, refl)
-some_of None h = cc
-
-both_true : (a b : Bool) → (a && b) ≡ true → (a ≡ true) × (b ≡ true)
-both_true true b h = (refl, h)
-both_true false b h = cc
-
-all_some : (known : List ℕ → Option Facts) (ps : List Prod) → list_all (λ (p : Prod). is_some (expr_facts known p.body))
-    ps ≡ true → (p : Prod) → Contains ps p → (f : Facts) × (expr_facts known p.body ≡ Some f)
-all_some known [] all p here = absurd (no_item here)
-all_some known (q ∷ ps) all p here =
-    let two = both_true (is_some (expr_facts known q.body)) (list_all (λ (p : Prod). is_some (expr_facts known p.body))
-    ps) all in
-    let P : Prod → Type 0 = λ z. (f : Facts) × (expr_facts known z.body ≡ Some f) in
-    elim (item_cases q ps here) [
-      | inl same ↦ subst P same (some_of (expr_facts known q.body) two.0)
-      | inr more ↦
-          all_some known ps two.1 p more
-    ]
-
-pub whole_known : (spec : Spec) (known : List ℕ → Option Facts)
-    → list_all (λ (p : Prod). is_some (expr_facts known p.body)) spec.prods ≡ true
-    → is_some (expr_facts known spec.main) ≡ true → AreKnown spec known
-whole_known spec known all main = record {
-  bodies = all_some known spec.prods all;
-  main = some_of
-      (expr_facts known spec.main) main;
 }
 
 -- where no name is declared twice, each production is the first of its name

@@ -5,7 +5,6 @@ use Rattle.std.specs.Global.{Vec}
 use Rattle.std.specs.Prelude.{slice_get, if◌then◌else◌, nat_eq}
 use Rattle.std.specs.Option.{option_eq}
 use Rattle.std.proofs.lemmas.Option.{slice_get_within}
-use Rattle.std.proofs.lemmas.Bool.Decides.{eqb_tells}
 use Rattle.pbs_base.specs.declared.refusal.Span.{Span}
 use Rattle.pbs_check.specs.declared.graph.Link.{Link}
 use Rattle.pbs_check.specs.inner.Circles.{AreRound, HasRoot, Rooted, AreAllRoots, round_span}
@@ -13,7 +12,7 @@ use Rattle.pbs_check.specs.Least.{span_le, IsLeast, least_of, least_by}
 use Rattle.pbs_check.specs.inner.Links as links
 use Rattle.pbs_check.specs.inner.Links.{At, Leads, IsRecursive, Round, HasRecursion, HasRecursionTo}
 use Rattle.pbs_check.proofs.CircleLemmas.{one_use, round_back, round_on}
-use Rattle.pbs_check.proofs.LeastLemmas.{span_refl, least_either, least_same, least_by_is, OneOf, ByItem}
+use Rattle.pbs_check.proofs.LeastLemmas.{span_refl, least_either, least_same, least_by_is, OneOf, ByItem, below_cases}
 use Rattle.pbs_check.proofs.SearchLemmas.{same_mark, mark_same}
 use Rattle.pbs_check.proofs.UserLemmas.{at_number}
 
@@ -68,17 +67,8 @@ recursion_is uses roots n v are there =
         (InCircle (ap (λ o. option_eq nat_eq o (get_or roots n None)) e ∙ mark_same (get_or roots n None)) refl)
 
 -- ---- one production after another
-below_cases : (m n : ℕ) → m < n + 1 → (m < n) ⊎ (m ≡ n)
-below_cases m n few = elim (eqb_tells m n) [
-  | inl (_, same) ↦ inr same
-  | inr (_, other) ↦ inl (omega (arith, few, other))
-]
-
 later_one : {uses : List (Vec Link)} {n : ℕ} {s : Span} → HasRecursionTo uses n s → HasRecursionTo uses (n + 1) s
 later_one (links.Of few round) = links.Of (omega (arith, few)) round
-
-pub below_none : (uses : List (Vec Link)) → IsLeast (HasRecursionTo uses 0) None
-below_none uses s (links.Of few round) = omega (arith, few)
 
 pub below_more : (uses : List (Vec Link)) (n : ℕ) (a b : Option Span) → IsLeast (HasRecursionTo uses n) a
     → IsLeast (IsRecursive uses n) b → IsLeast (HasRecursionTo uses (n + 1)) (least_of a b)

@@ -1,7 +1,7 @@
 -- A search goes on, and ends with all that can be reached.
-use Rattle.std.proofs.Common.{◌≡◌, ◌≤◌, ◌<◌, ◌≢◌, ◌+◌, ℕ, zero, suc, Bool, true, false, not, cond, ◌⊎◌}
-use Rattle.std.proofs.Common.{inl, inr, List, [], ◌∷◌, ◌++◌, length, set, take, get_or, Option, Some, None, refl, sym}
-use Rattle.std.proofs.Common.{ap, subst, ◌∙◌, arith, length-append, length-set}
+use Rattle.std.proofs.Common.{◌≡◌, ◌≤◌, ◌<◌, ◌≢◌, ◌+◌, ℕ, zero, suc, Bool, true, false, not, cond, ◌⊎◌, inl, inr, List}
+use Rattle.std.proofs.Common.{[], ◌∷◌, ◌++◌, length, set, take, get_or, Option, Some, None, refl, sym, ap, subst, ◌∙◌}
+use Rattle.std.proofs.Common.{arith, length-append, length-set}
 use Rattle.std.specs.Global.{Vec}
 use Rattle.std.specs.Prelude.{Contains, slice_get, nat_eq}
 use Rattle.std.specs.List.{count_by}
@@ -11,10 +11,11 @@ use Rattle.std.proofs.lemmas.Bool.Decides.{eqb_tells}
 use Rattle.std.proofs.lemmas.List.{get_or-set_same, get_or-set_other}
 use Rattle.std.proofs.lemmas.List.Sums.{sum_by-cons, sum_by-set}
 use Rattle.std.proofs.lemmas.List.Elements.{Contains-append_cases, Contains-append_left, Contains-append_right}
+use Rattle.pbs_ast.proofs.Items.{first_item, later_item, no_item, item_cases}
 use Rattle.pbs_check.specs.declared.searching.Search.{Search}
 use Rattle.pbs_check.specs.inner.Links.{HasNext, By}
 use Rattle.pbs_check.specs.inner.Searching.{LeadsBy, Stay, Onward, IsMarked, Spreads, is_other, IsSearch, Grows}
-use Rattle.pbs_check.proofs.LeastLemmas.{first_item, later_item, no_item, item_cases}
+use Rattle.pbs_check.proofs.LeastLemmas.{below_cases}
 use Rattle.pbs_check.proofs.UserLemmas.{taken_cases, take_whole}
 
 pub get_first : {X : Type 0} (xs ys : List X) (m : ℕ) (x : X) → slice_get xs m ≡ Some x
@@ -39,10 +40,6 @@ mark_same (Some n) = elim (eqb_tells n n) [
   | inl (is, _) ↦ is
   | inr (_, other) ↦ absurd (other refl)
 ]
-
-pub not_same : (same : Bool) → not same ≡ true → same ≡ false
-not_same false h = refl
-not_same true h = cc
 
 one_less : (root : ℕ) (marks : List (Option ℕ)) (i : ℕ) → i < length marks
     → option_eq nat_eq (get_or marks i None) (Some root) ≡ false
@@ -204,12 +201,6 @@ pub marks_all : (root : ℕ) (list : List ℕ) (labels : List (Option ℕ)) (lab
 marks_all root list labels label n old new all so_far k here labelled few =
     let P : List ℕ → Type 0 = λ xs. Contains xs k in
     so_far.marked k (subst P (sym (take_whole list n all)) here) labelled few
-
-below_cases : (m n : ℕ) → m < n + 1 → (m < n) ⊎ (m ≡ n)
-below_cases m n few = elim (eqb_tells m n) [
-  | inl (_, same) ↦ inr same
-  | inr (_, other) ↦ inl (omega (arith, few, other))
-]
 
 get_item : (xs : List ℕ) (m k : ℕ) → slice_get xs m ≡ Some k → Contains xs k
 get_item [] m k is = cc

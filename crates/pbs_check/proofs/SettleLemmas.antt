@@ -1,19 +1,17 @@
--- What is learnt of a production is true, and the production is settled.
+-- What is learnt of a production is true; and where an expression is known, so are its parts.
 use Rattle.std.proofs.Common.{◌≡◌, inl, inr, ℕ, ◌==◌, Bool, true, false, cond, nat_eq, List, [], ◌∷◌, Option, Some}
-use Rattle.std.proofs.Common.{None, refl, sym, ap, subst, ◌∙◌}
+use Rattle.std.proofs.Common.{refl, sym, ap, subst, ◌∙◌}
 use Rattle.std.specs.Prelude.{Contains}
 use Rattle.std.specs.Cmp.Lexicographic.{pointwise, same_text}
-use Rattle.pbs_base.specs.declared.refusal.Span.{Span}
+use Rattle.pbs_ast.proofs.Items.{no_item, item_cases}
 use Rattle.pbs_ast.specs.declared.syntax.Expr.{Expr}
 use Rattle.pbs_ast.specs.declared.syntax.Prod.{Prod}
 use Rattle.pbs_ast.specs.declared.syntax.Kind as kind
-use Rattle.pbs_rules.specs.Forms as forms
-use Rattle.pbs_rules.specs.Forms.{Form, form, form_of, parts}
+use Rattle.pbs_names.specs.Forms as forms
+use Rattle.pbs_names.specs.Forms.{form_of, parts}
 use Rattle.pbs_check.specs.declared.facts.Facts.{Facts}
 use Rattle.pbs_check.specs.inner.Facts.{choice_of, kind_facts, expr_facts, all_facts, any_facts}
-use Rattle.pbs_check.specs.Recursion.{IsWithin, Whole, OfPart, UsesAt, Here}
-use Rattle.pbs_check.specs.inner.Truth.{FactsAre, IsSettled, Settled, AreFirst, Settles}
-use Rattle.pbs_check.proofs.LeastLemmas.{no_item, item_cases}
+use Rattle.pbs_check.specs.inner.Truth.{FactsAre, AreFirst, Settles}
 use Rattle.pbs_check.proofs.FactLemmas.{row_all_is, row_any_is}
 use Rattle.pbs_check.proofs.FactTruth.{after_some, either_some, or_some, scope_some, facts_are, named_is}
 
@@ -81,46 +79,16 @@ parts_known known (kind.Name name) f h x here = absurd (no_item here)
 parts_known known (kind.Repeat' p s e m n) f h x here = let some = or_some (nat_eq m 0) (kind_facts known e) f h in
     only_known known (forms.expr_of s e) some.0 some.1 x here
 
-pub within_known : (known : List ℕ → Option Facts) (d e : Expr) → IsWithin d e → Known known e → Known known d
-within_known known d e Whole k = k
-within_known known d e (OfPart {x = x} part more) k = within_known known d x more
-    (parts_known known e.kind k.0 k.1 x part)
-
-name_known : (known : List ℕ → Option Facts) (k : kind.Kind) (name : List ℕ) (f : Facts) → form_of k ≡ forms.Name name
-    → kind_facts known k ≡ Some f → known name ≡ Some f
-name_known known (kind.Name other) name f is h = let same : other ≡ name = cc in ap known (sym same) ∙ h
-name_known known kind.Empty name f is h = cc
-name_known known (kind.Terminal t) name f is h = cc
-name_known known (kind.Action a at) name f is h = cc
-name_known known (kind.Seq' n row) name f is h = cc
-name_known known (kind.Choice' n row) name f is h = cc
-name_known known (kind.Star' p s e) name f is h = cc
-name_known known (kind.Plus' p s e) name f is h = cc
-name_known known (kind.Opt' p s e) name f is h = cc
-name_known known (kind.Hold' t p s e) name f is h = cc
-name_known known (kind.Scope' p s e q s' y r s'' z) name f is h = cc
-name_known known (kind.Repeat' p s e m n) name f is h = cc
-
-pub use_known : (known : List ℕ → Option Facts) (e : Expr) (via : List ℕ) (span : Span) → Known known e
-    → UsesAt e via span → (f : Facts) × (known via ≡ Some f)
-use_known known e via span k (Here {d = d} within is) = let inner = within_known known d e within k in
-    (inner.0, name_known known d.kind via inner.0 is inner.1)
-
--- the production is learnt
+-- what is learnt of a production is true
 pub learnt : (prods : List Prod) (p : Prod) (facts : Facts) (old new : List ℕ → Option Facts) → AreFirst prods
     → Contains prods p → Settles prods old → expr_facts old p.body ≡ Some facts
     → ((name : List ℕ) → new name ≡ cond (pointwise ◌==◌ p.name name) (Some facts) (old name)) → Settles prods new
 learnt prods p facts old new are here so_far found updates = record {
   knows = λ name f h. known_is name f (pointwise ◌==◌ p.name name) refl (sym (updates name) ∙ h);
-  settled = λ name f h. settled_is name f (pointwise ◌==◌ p.name name) refl (sym (updates name) ∙ h);
 }
   where
     own : FactsAre prods (forms.Name p.name) facts
     own = named_is prods p.name p.body facts (are.first p here) (facts_are prods old so_far.knows p.body facts found)
-
-    own_settled : IsSettled prods p.name
-    own_settled = Settled (are.first p here) (λ via span uses. let k = use_known old p.body via span (facts, found)
-        uses in so_far.settled via k.0 k.1)
 
     known_is : (name : List ℕ) (f : Facts) (b : Bool) → pointwise ◌==◌ p.name name ≡ b
         → cond b (Some facts) (old name) ≡ Some f → FactsAre prods (forms.Name name) f
@@ -129,23 +97,3 @@ learnt prods p facts old new are here so_far found updates = record {
         let P : List ℕ → Type 0 = λ n. FactsAre prods (forms.Name n) f in let Q : Facts
         → Type 0 = FactsAre prods (forms.Name p.name) in subst P e (subst Q g own)
     known_is name f false other h = so_far.knows name f h
-
-    settled_is : (name : List ℕ) (f : Facts) (b : Bool) → pointwise ◌==◌ p.name name ≡ b
-        → cond b (Some facts) (old name) ≡ Some f → IsSettled prods name
-    settled_is name f true same h = let e : p.name ≡ name = same_text p.name name (sym same) in let P : List ℕ
-        → Type 0 = IsSettled prods in subst P e own_settled
-    settled_is name f false other h = so_far.settled name f h
-
-pub nothing_known : (prods : List Prod) (known : List ℕ → Option Facts) → ((name : List ℕ) → known name ≡ None)
-    → Settles prods known
-nothing_known prods known none = record {
-  knows = λ name f h. impossible name f h;
-  settled = λ name f h. absurd
-      (never name f h);
-}
-  where
-    never : (name : List ℕ) (f : Facts) → known name ≡ Some f → ⊥
-    never name f h = let clash : None ≡ Some f = sym (none name) ∙ h in cc
-
-    impossible : (name : List ℕ) (f : Facts) → known name ≡ Some f → FactsAre prods (forms.Name name) f
-    impossible name f h = absurd (never name f h)

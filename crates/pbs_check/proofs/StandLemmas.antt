@@ -3,15 +3,15 @@ use Rattle.std.proofs.Common.{◌≡◌, ◌⊎◌, inl, inr, List, [], ◌∷�
 use Rattle.std.specs.Prelude.{Contains}
 use Rattle.std.proofs.lemmas.List.{append-nil}
 use Rattle.std.proofs.lemmas.List.Elements.{Contains-append_cases, Contains-append_left, Contains-append_right}
+use Rattle.pbs_ast.proofs.Items.{first_item, later_item, no_item, item_cases}
 use Rattle.pbs_base.specs.declared.refusal.Span.{Span}
 use Rattle.pbs_ast.specs.declared.syntax.Expr.{Expr}
 use Rattle.pbs_ast.specs.declared.syntax.Prod.{Prod}
 use Rattle.pbs_ast.specs.declared.syntax.Spec.{Spec}
 use Rattle.pbs_ast.specs.declared.syntax.Kind as kind
 use Rattle.pbs_ast.specs.declared.syntax.Kind.{Row_of-Expr, end_of-Expr, more_of-Expr, items-the_row-Expr}
-use Rattle.pbs_rules.specs.Forms.{form, form_of, parts, expr_of, Stands, OfMain, OfProd, OfPart}
+use Rattle.pbs_names.specs.Forms.{form, form_of, parts, expr_of, Stands, OfMain, OfProd, OfPart}
 use Rattle.pbs_check.specs.inner.Walking.{below, below_kind, inside, inside_all, inside_prods}
-use Rattle.pbs_check.proofs.LeastLemmas.{first_item, later_item, no_item, item_cases}
 use Rattle.pbs_check.proofs.WalkLemmas.{row_inside_is}
 
 -- a fact on expressions that follows from that on their parts

@@ -4,10 +4,10 @@ use Rattle.std.specs.Global.{Vec}
 use Rattle.std.specs.Prelude.{Contains, slice_get}
 use Rattle.std.specs.Option.{option_map}
 use Rattle.std.proofs.lemmas.Option.{slice_get-map}
+use Rattle.pbs_ast.proofs.Items.{first_item, later_item, no_item, item_cases}
 use Rattle.pbs_base.specs.declared.refusal.Span.{Span}
 use Rattle.pbs_check.specs.declared.graph.Link.{Link}
 use Rattle.pbs_check.specs.inner.Links.{link, targets_of, AreTargets, HasUse, At, HasNext, By}
-use Rattle.pbs_check.proofs.LeastLemmas.{first_item, later_item, no_item, item_cases}
 
 link_target : (ls : List Link) (l : Link) → Contains ls l → Contains (targets_of ls) l.to
 link_target [] l here = absurd (no_item here)

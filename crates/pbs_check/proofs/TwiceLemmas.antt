@@ -40,8 +40,3 @@ twice_more all left old_left x old new known first old_found found split so_far 
       is = finds ∙ ap (λ o. least_of (later_of o x.span) old_found) known_is
           ∙ ap (least_of (later_of (first_place x.name rest) x.span)) so_far.is;
     }
-
-pub twice_all : (all left : List Named) (place : List ℕ → Option Span) (found : Option Span) → left ≡ []
-    → IsTwiceTo all left place found → found ≡ first_twice all
-twice_all all left place found none so_far =
-    so_far.is ∙ ap first_twice (ap (λ xs. xs ++ so_far.rest) (sym none) ∙ so_far.whole)

@@ -5,13 +5,13 @@ use Rattle.std.specs.Prelude.{if◌then◌else◌, Contains}
 use Rattle.std.specs.Cmp.Lexicographic.{pointwise, same_text}
 use Rattle.std.proofs.lemmas.Bool.{false≢true}
 use Rattle.std.proofs.lemmas.Cmp.{nat_list_eq_equiv}
+use Rattle.pbs_ast.proofs.Items.{first_item, later_item, no_item, item_cases}
 use Rattle.pbs_base.specs.declared.refusal.Span.{Span}
 use Rattle.pbs_check.specs.declared.named.Named.{Named}
 use Rattle.pbs_check.specs.Declaring.{Twice, First, Further}
 use Rattle.pbs_check.specs.Least.{span_le, later_span, IsLeast}
 use Rattle.pbs_check.specs.inner.Twices.{first_place, later_of, first_twice}
-use Rattle.pbs_check.proofs.LeastLemmas.{span_refl, span_trans, span_total, least_either, first_item, later_item}
-use Rattle.pbs_check.proofs.LeastLemmas.{no_item, item_cases}
+use Rattle.pbs_check.proofs.LeastLemmas.{span_refl, span_trans, span_total, least_either}
 
 -- a place of the name
 data PlaceOf (name : List ℕ) (xs : List Named) (s : Span) : Type 0 where

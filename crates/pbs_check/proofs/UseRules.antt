@@ -8,10 +8,10 @@ use Rattle.pbs_ast.specs.declared.syntax.Expr.{Expr}
 use Rattle.pbs_ast.specs.declared.syntax.Level.{Level}
 use Rattle.pbs_ast.specs.declared.syntax.Set.{Set}
 use Rattle.pbs_ast.specs.declared.syntax.Spec.{Spec}
-use Rattle.pbs_rules.specs.Naming.{input_names, action_names, prod_names}
-use Rattle.pbs_rules.specs.Numbers.{number_in}
-use Rattle.pbs_rules.specs.Forms as forms
-use Rattle.pbs_rules.specs.Forms.{Form, form, Stands}
+use Rattle.pbs_names.specs.Naming.{input_names, action_names, prod_names}
+use Rattle.pbs_names.specs.Numbers.{number_in}
+use Rattle.pbs_names.specs.Forms as forms
+use Rattle.pbs_names.specs.Forms.{Form, form}
 use Rattle.pbs_check.specs.declared.named.Named.{Named}
 use Rattle.pbs_check.specs.declared.uses.Wanted.{Wanted}
 use Rattle.pbs_check.specs.declared.uses.Wanted.TheVariants as wanted
@@ -23,8 +23,7 @@ use Rattle.pbs_check.specs.Least.{span_le, IsLeast, least_by}
 use Rattle.pbs_check.specs.Using.{Use, use_of, Leaf, NameLeaf, EqualLeaf, leaves, leaf_use, own_uses, bus_names, IsUse}
 use Rattle.pbs_check.specs.Using.{InExpr, InLevel, IsDeclared, IsKind, Rule6, NotDeclared, Rule7, WrongKind}
 use Rattle.pbs_check.specs.inner.Walking.{kind_numbers, name_broken, leaf_broken, copies_broken, star_broken}
-use Rattle.pbs_check.specs.inner.Walking.{scope_broken}
-use Rattle.pbs_check.specs.inner.Walking.{form_broken, own_broken, set_broken, level_broken}
+use Rattle.pbs_check.specs.inner.Walking.{scope_broken, form_broken, own_broken, set_broken, level_broken}
 use Rattle.pbs_check.specs.inner.Stages.{IsTables, found_in}
 use Rattle.pbs_check.proofs.LeastLemmas.{span_refl, least_either, least_same, least_by_is, least_map, least_one}
 use Rattle.pbs_check.proofs.LeastLemmas.{least_of_none, OneOf, ByItem}

@@ -4,12 +4,12 @@ use Rattle.std.proofs.Common.{get_or, Some, refl, sym, ap, subst, ◌∙◌, ari
 use Rattle.std.specs.Global.{Vec}
 use Rattle.std.specs.Prelude.{Contains, slice_get}
 use Rattle.std.proofs.lemmas.Option.{slice_get_within}
-use Rattle.std.proofs.lemmas.Bool.Decides.{eqb_tells}
 use Rattle.std.proofs.lemmas.List.Elements.{Contains-append_cases, Contains-append_left, Contains-append_right}
+use Rattle.pbs_ast.proofs.Items.{first_item, no_item, item_cases}
 use Rattle.pbs_base.specs.declared.refusal.Span.{Span}
 use Rattle.pbs_check.specs.declared.graph.Link.{Link}
 use Rattle.pbs_check.specs.inner.Links.{link, HasUse, At, HasNext, By, AreUsers, AddsUsers}
-use Rattle.pbs_check.proofs.LeastLemmas.{first_item, no_item, item_cases}
+use Rattle.pbs_check.proofs.LeastLemmas.{below_cases}
 use Rattle.pbs_check.proofs.GraphLemmas.{get_at}
 
 -- ---- lists as far as they were looked at
@@ -101,12 +101,6 @@ users_none uses users size none = record {
   sound = λ used user here. absurd (none used user here);
   complete = λ used user span here few within. absurd (omega (arith, few));
 }
-
-below_cases : (m n : ℕ) → m < n + 1 → (m < n) ⊎ (m ≡ n)
-below_cases m n few = elim (eqb_tells m n) [
-  | inl (_, same) ↦ inr same
-  | inr (_, other) ↦ inl (omega (arith, few, other))
-]
 
 pub at_number : (uses : List (Vec Link)) (n k : ℕ) (span : Span) (links : Vec Link) → slice_get uses n ≡ Some links
     → HasUse uses n k span → Contains links.items (link k span)

@@ -15,7 +15,7 @@ use Rattle.pbs_ast.specs.declared.syntax.SpecTerm.{SpecTerm, All, Any, Row_of-Sp
 use Rattle.pbs_ast.specs.declared.syntax.SpecTerm.{more_of-SpecTerm, items-the_row-SpecTerm}
 use Rattle.pbs_ast.specs.declared.syntax.SpecTerm.{items_hidden-the_row-SpecTerm-0}
 use Rattle.pbs_ast.specs.declared.syntax.SpecTerm.TheBlock.{hidden-the_row-SpecTerm-0}
-use Rattle.pbs_rules.specs.Forms.{expr_of}
+use Rattle.pbs_names.specs.Forms.{expr_of}
 use Rattle.pbs_check.specs.Using.{leaves, row_leaves}
 use Rattle.pbs_check.specs.inner.Walking.{below_kind, row_inside, inside, inside_all, inside_prods, all_leaves}
 

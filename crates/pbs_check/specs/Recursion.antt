@@ -4,8 +4,8 @@ use Rattle.pbs_base.specs.declared.refusal.Span.{Span}
 use Rattle.pbs_ast.specs.declared.syntax.Expr.{Expr}
 use Rattle.pbs_ast.specs.declared.syntax.Prod.{Prod}
 use Rattle.pbs_ast.specs.declared.syntax.Spec.{Spec}
-use Rattle.pbs_rules.specs.Forms.{Name, form, parts}
-use Rattle.pbs_rules.specs.Naming.{body_of}
+use Rattle.pbs_names.specs.Forms.{Name, form, parts}
+use Rattle.pbs_names.specs.Naming.{body_of}
 
 -- the expression is this one, or stands in it
 pub data IsWithin (d : Expr) : Expr → Type 0 where

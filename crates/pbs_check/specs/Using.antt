@@ -9,9 +9,9 @@ use Rattle.pbs_ast.specs.declared.syntax.Set.{Set}
 use Rattle.pbs_ast.specs.declared.syntax.Spec.{Spec}
 use Rattle.pbs_ast.specs.declared.syntax.SpecTerm as terms
 use Rattle.pbs_ast.specs.declared.syntax.SpecTerm.{SpecTerm, Row_of-SpecTerm, end_of-SpecTerm, more_of-SpecTerm}
-use Rattle.pbs_rules.specs.Forms.{Form, Terminal, Action, Hold, Name, Repeat, form, Stands}
-use Rattle.pbs_rules.specs.Naming.{input_names, action_names, prod_names, bus_of}
-use Rattle.pbs_rules.specs.declared.buses.Bus.{Bus}
+use Rattle.pbs_names.specs.Forms.{Form, Terminal, Action, Hold, Name, Repeat, form, Stands}
+use Rattle.pbs_names.specs.Naming.{input_names, action_names, prod_names, bus_of}
+use Rattle.pbs_names.specs.declared.buses.Bus.{Bus}
 use Rattle.pbs_check.specs.declared.named.Named.{Named}
 use Rattle.pbs_check.specs.declared.uses.Wanted.{Wanted}
 use Rattle.pbs_check.specs.declared.uses.Wanted.TheVariants as wanted

@@ -7,7 +7,7 @@ use crate::least::least_of;
 use crate::named::{declared_names, first_twice, listed};
 use pbs_ast::{Decls, Levels, Spec};
 use pbs_base::{Memory, Span};
-use pbs_rules::input_count;
+use pbs_names::input_count;
 use std::alloc::Global;
 
 fn levels_twice(alloc: Global, levels: &Levels) -> Result<Option<Span>, Memory>

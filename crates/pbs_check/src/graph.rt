@@ -1,13 +1,13 @@
 // Productions by their numbers, and how they use each other.
 ghost use Rattle.std.specs.Prelude.{◌≡◌, ◌<◌, ◌++◌, ℕ, ◌⊎◌, length, IfOk, OnOk};
-ghost use Rattle.pbs_rules.specs.Numbers.{number_in};
+ghost use Rattle.pbs_names.specs.Numbers.{number_in};
 ghost use Rattle.pbs_check.specs.inner.Walking.{inside, inside_all};
 ghost use Rattle.pbs_check.specs.inner.Links.{link_to, links_in, links_of, AreLinks, HasNext, AreUsers, AddsUsers};
 ghost use Rattle.pbs_check.specs.inner.Links.{targets_of, AreTargets};
 
 use pbs_ast::{Expr, Items, Kind, Prods};
 use pbs_base::{Memory, Span, Word};
-use pbs_rules::Numbers;
+use pbs_names::Numbers;
 use std::alloc::Global;
 
 /// The use of a production of that number, and its place.
@@ -147,8 +147,8 @@ fn users_of(alloc: Global, uses: &[Vec<Link>]) -> Result<Vec<Vec<usize>>, Memory
 }
 
 impl Graph {
-    ghost use Rattle.pbs_rules.specs.Naming.{prod_names};
-    ghost use Rattle.pbs_rules.specs.Numbers.{IsNumbering};
+    ghost use Rattle.pbs_names.specs.Naming.{prod_names};
+    ghost use Rattle.pbs_names.specs.Numbers.{IsNumbering};
     ghost use Rattle.pbs_check.specs.inner.Links.{IsGraph};
 
     pub(crate) fn new(alloc: Global, prods: &Prods, numbers: &Numbers) -> Result<Graph, Memory>

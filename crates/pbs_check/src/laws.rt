@@ -1,10 +1,13 @@
-//! What holds of a specification that breaks none of the rules: a caller gets it as clauses of a call.
-ghost use Rattle.std.specs.Prelude.{◌≡◌, ◌≤◌, length};
+//! What holds of a specification that breaks none of the rules, and of the rules: a caller gets it as clauses of a call.
+ghost use Rattle.std.specs.Prelude.{Result, ℕ, ◌↔◌, ◌≡◌, ◌≤◌, length};
 ghost use Rattle.pbs_base.specs.declared.refusal.Refusal.{Refusal};
+ghost use Rattle.pbs_base.specs.declared.refusal.Span.{Span};
 ghost use Rattle.pbs_base.specs.Words.{AreDifferent};
+ghost use Rattle.pbs_ast.specs.Bare.{bare};
 ghost use Rattle.pbs_ast.specs.declared.syntax.Spec.{Spec};
-ghost use Rattle.pbs_rules.specs.Naming.{input_names, action_names};
-ghost use Rattle.pbs_check.specs.Checked.{IsFirst, IsUnbroken};
+ghost use Rattle.pbs_names.specs.Naming.{input_names, action_names};
+ghost use Rattle.pbs_check.specs.Checked.{Checks, IsBroken, IsFirst, IsUnbroken};
+ghost use Rattle.pbs_check.specs.declared.failure.Check.{Check};
 
 /// There are at most 64 inputs, the bits of buses among them, at most 64 actions, and at most 64 levels.
 pub fn within_limits()
@@ -23,4 +26,12 @@ pub fn declared_once()
 pub fn one_refusal()
     ensures same { (spec : Spec) (r s : Refusal) → IsFirst spec r → IsFirst spec s → r ≡ s }
     ensures never { (spec : Spec) (r : Refusal) → IsFirst spec r → IsUnbroken spec → ⊥ }
+{}
+
+/// A specification and the same one with its boxes at one place break the same rules at the same spans. So the same
+/// rule is the first that is broken, and the same answers of the checks are right.
+pub fn same_rules()
+    ensures broken { (spec : Spec) (rule : ℕ) (span : Span) → IsBroken spec rule span ↔ IsBroken (bare spec) rule span }
+    ensures first { (spec : Spec) (refusal : Refusal) → IsFirst spec refusal ↔ IsFirst (bare spec) refusal }
+    ensures answer { (spec : Spec) (result : Result (Unit {0}) Check) → Checks spec result ↔ Checks (bare spec) result }
 {}

@@ -1,14 +1,14 @@
 // Names with their places, and those that stand twice.
 ghost use Rattle.std.specs.Prelude.{◌≡◌, ◌++◌, IfOk, OnOk, Some};
-ghost use Rattle.pbs_check.specs.Declaring.{named, declared_by, declared_inputs, declared_actions};
-ghost use Rattle.pbs_check.specs.Declaring.{declared_levels, declared_prods, declared_names, listed};
+ghost use Rattle.pbs_check.specs.Declaring.{named, declared_by, declared_inputs, declared_actions, declared_levels};
+ghost use Rattle.pbs_check.specs.Declaring.{declared_prods, declared_names, listed};
 ghost use Rattle.pbs_check.specs.Least.{least_of};
 ghost use Rattle.pbs_check.specs.inner.Twices.{first_twice, later_of};
 
 use crate::least::{earlier, later, least_of};
 use pbs_ast::{Decl, Decls, Levels, Prods, Sets, Spec};
 use pbs_base::{Memory, Span, Word};
-use pbs_rules::bit_word;
+use pbs_names::bit_word;
 use std::alloc::Global;
 use std::collections::HashMap;
 

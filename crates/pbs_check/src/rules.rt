@@ -4,11 +4,11 @@ ghost use Rattle.pbs_check.specs.Declaring.{Rule5, Rule11};
 ghost use Rattle.pbs_check.specs.Least.{IsLeast};
 ghost use Rattle.pbs_check.specs.inner.Stages.{IsTables};
 ghost use Rattle.pbs_base.specs.Words.{AreDifferent};
-ghost use Rattle.pbs_rules.specs.Naming.{prod_names};
+ghost use Rattle.pbs_names.specs.Naming.{prod_names};
 ghost use Rattle.pbs_check.specs.inner.Links.{IsGraph};
 ghost use Rattle.pbs_check.specs.Recursion.{Rule8};
 ghost use Rattle.pbs_check.specs.inner.Truth.{AreFirst, IsKnown};
-ghost use Rattle.pbs_rules.specs.Moving.{Rule9, Rule10};
+ghost use Rattle.pbs_names.specs.StarsAndScopes.{Rule9, Rule10};
 ghost use Rattle.pbs_check.specs.Using.{Rule6, Rule7, Rule18, Rule19};
 
 use crate::circles::Circles;

@@ -8,7 +8,7 @@ use crate::named::{Named, declared_names};
 use crate::uses::Tables;
 use pbs_ast::{Decls, Spec};
 use pbs_base::{Memory, Word};
-use pbs_rules::{Numbers, action_words, input_words, prod_words};
+use pbs_names::{Numbers, action_words, input_words, prod_words};
 use std::alloc::Global;
 
 fn words_of(alloc: Global, names: &[Named]) -> Result<Vec<Word>, Memory>

@@ -1,19 +1,18 @@
 // Names that are used, comparisons and repetitions.
 ghost use Rattle.std.specs.Prelude.{◌≡◌, ◌^◌, nat_le};
 ghost use Rattle.std.specs.Option.{is_some};
-ghost use Rattle.pbs_rules.specs.Numbers.{number_in};
+ghost use Rattle.pbs_names.specs.Numbers.{number_in};
 ghost use Rattle.pbs_check.specs.Least.{least_by};
 ghost use Rattle.pbs_check.specs.Using.{leaves};
-ghost use Rattle.pbs_check.specs.inner.Walking.{kind_numbers, name_broken, bus_width};
-ghost use Rattle.pbs_check.specs.inner.Walking.{too_large, equal_broken, leaf_broken, all_leaves};
-ghost use Rattle.pbs_check.specs.inner.Walking.{copies_broken, star_broken, scope_broken};
+ghost use Rattle.pbs_check.specs.inner.Walking.{kind_numbers, name_broken, bus_width, too_large, equal_broken};
+ghost use Rattle.pbs_check.specs.inner.Walking.{leaf_broken, all_leaves, copies_broken, star_broken, scope_broken};
 ghost use Rattle.pbs_check.specs.inner.Walking.{own_broken, inside, inside_all, below};
 
 use crate::facts::{Known, expr_facts};
 use crate::least::least_of;
 use pbs_ast::{Decls, Expr, Items, Kind, SpecTerm, TermItems};
 use pbs_base::{Span, Word};
-use pbs_rules::Numbers;
+use pbs_names::Numbers;
 
 /// What a use wants its name to be.
 #[derive(Clone, Copy)]

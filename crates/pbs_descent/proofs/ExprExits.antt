@@ -1,28 +1,25 @@
 -- Each exit of the descent over expressions, over plain variables.
-use Rattle.std.proofs.Common.{◌≡◌, ◌≢◌, ℕ, ◌+◌, ◌<◌, ◌≤◌, List, [], ◌∷◌, ◌++◌, length, map, Bool, None, Err, refl}
-use Rattle.std.proofs.Common.{sym, ap, ap₂, ◌∙◌, false, true, arith, length-append}
+use Rattle.std.proofs.Common.{◌≡◌, ◌≢◌, ℕ, ◌+◌, ◌<◌, ◌≤◌, List, [], ◌∷◌, ◌++◌, length, map, Bool, None, Err, refl, sym}
+use Rattle.std.proofs.Common.{ap, ap₂, ◌∙◌, false, true, arith, length-append}
 use Rattle.std.specs.Prelude.{option_map}
 use Rattle.std.proofs.lemmas.Bool.{false≢true}
+use Rattle.pbs_ast.proofs.BareRows.{bare_exprs_of}
 use Rattle.pbs_ast.specs.declared.syntax.SpecTerm.{SpecTerm}
 use Rattle.pbs_ast.specs.declared.syntax.Expr.{Expr}
-use Rattle.pbs_ast.specs.declared.syntax.Kind.{Kind, Row_of-Expr, end_of-Expr, more_of-Expr, items-the_row-Expr}
-use Rattle.pbs_ast.specs.declared.syntax.Kind.{items_hidden-the_row-Expr-0}
-use Rattle.pbs_ast.specs.declared.syntax.Kind.TheBlock.{hidden-the_row-Expr-0}
 use Rattle.pbs_text.specs.declared.fail.ReadSpec.{ReadSpec}
 use Rattle.pbs_text.specs.declared.fail.ReadSpec.TheVariants.{Memory, Refused}
-use Rattle.pbs_text.specs.Bare.{expr, bare_kind, bare_exprs, bare_expr}
+use Rattle.pbs_ast.specs.Bare.{expr, bare_expr}
 use Rattle.pbs_text.specs.Trees.{word_at, joined, term_tree, group_extent, prim_extent, seq_node, choice_node}
 use Rattle.pbs_text.specs.Trees.{operator_node, repeat_node, hold_node, scope_node, expr_items, seq_items, item_tree}
 use Rattle.pbs_text.specs.Trees.{prim_tree, group_tree, seq_tree}
-use Rattle.pbs_text.specs.Holes.{item_nesting, group_nesting, ExprHole, OfGroup, SeqHole, FirstSeq, NextSeq, ItemHole}
-use Rattle.pbs_text.specs.Holes.{FirstItem, NextItem, GroupHole, AsPrim, OfHold, OfBody, OfTrap, OfAfter, OfTerminal}
-use Rattle.pbs_text.specs.Holes.{OfGuard}
+use Rattle.pbs_text.specs.places.Holes.{item_nesting, group_nesting, ExprHole, OfGroup, SeqHole, FirstSeq, NextSeq}
+use Rattle.pbs_text.specs.places.Holes.{ItemHole, FirstItem, NextItem, GroupHole, AsPrim, OfHold, OfBody, OfTrap}
+use Rattle.pbs_text.specs.places.Holes.{OfAfter, OfTerminal, OfGuard}
 use Rattle.pbs_text.specs.places.Reading.{stepped, move, bind, ended, read}
-use Rattle.pbs_descent.specs.Descent.{BeginsWith, NoFront, front_refusal, Stops, behind_term, behind_seq}
-use Rattle.pbs_descent.specs.Descent.{behind_expr, wants_expr, ReadsTerm, ReadsGroup, StopsGroup, ReadsPrim}
-use Rattle.pbs_descent.specs.Descent.{ReadsItem, StopsItem, ReadsSeq, ReadsExpr, StopsExpr, SeqSoFar, ExprSoFar}
-use Rattle.pbs_descent.specs.Descent.{TakesNumeral, ReadsBounds, StopsBounds, ReadsGuard, after_hold, NoOperator}
-use Rattle.pbs_descent.specs.Descent.{ReadsTrap, StopsTrap}
+use Rattle.pbs_descent.specs.Descent.{BeginsWith, NoFront, front_refusal, Stops, behind_term, behind_seq, behind_expr}
+use Rattle.pbs_descent.specs.Descent.{wants_expr, ReadsTerm, ReadsGroup, StopsGroup, ReadsPrim, ReadsItem, StopsItem}
+use Rattle.pbs_descent.specs.Descent.{ReadsSeq, ReadsExpr, StopsExpr, SeqSoFar, ExprSoFar, TakesNumeral, ReadsBounds}
+use Rattle.pbs_descent.specs.Descent.{StopsBounds, ReadsGuard, after_hold, NoOperator, ReadsTrap, StopsTrap}
 use Rattle.pbs_text.specs.Grammar.{token, Second, Numeral, ZeroNumeral, OneNumeral, TwoNumeral, DigitNumeral}
 use Rattle.pbs_text.specs.Grammar.{LongNumeral, numeral_kind, operator_kind, TermPhrase, OneAll, MoreAlls, ExprPhrase}
 use Rattle.pbs_text.specs.Grammar.{OneSeq, MoreSeqs, SeqPhrase, OneItem, MoreItems, ItemPhrase, Plain, Repeated}
@@ -37,10 +34,10 @@ use Rattle.pbs_text.specs.declared.token.Token.{Token}
 use Rattle.pbs_text.specs.declared.token.Operator.{Operator}
 use Rattle.pbs_text.specs.declared.token.Operator.TheVariants.{StarOp, PlusOp, OptOp}
 use Rattle.pbs_text.specs.declared.token.TokenKind.{TokenKind}
-use Rattle.pbs_text.specs.declared.token.TokenKind.TheVariants.{Name, HoldWord, TryWord, AbortWord, ThenWord}
-use Rattle.pbs_text.specs.declared.token.TokenKind.TheVariants.{Semicolon, Comma, OpenCurly, CloseCurly, OpenRound}
-use Rattle.pbs_text.specs.declared.token.TokenKind.TheVariants.{CloseRound, OpenSquare, CloseSquare, Bar, Star, Plus}
-use Rattle.pbs_text.specs.declared.token.TokenKind.TheVariants.{Question, Colon}
+use Rattle.pbs_text.specs.declared.token.TokenKind.TheVariants.{Name, HoldWord, TryWord, AbortWord, ThenWord, Semicolon}
+use Rattle.pbs_text.specs.declared.token.TokenKind.TheVariants.{Comma, OpenCurly, CloseCurly, OpenRound, CloseRound}
+use Rattle.pbs_text.specs.declared.token.TokenKind.TheVariants.{OpenSquare, CloseSquare, Bar, Star, Plus, Question}
+use Rattle.pbs_text.specs.declared.token.TokenKind.TheVariants.{Colon}
 use Rattle.pbs_descent.proofs.TermExits.{shallow, none_second, one_or-many, map-more, two_now}
 use Rattle.pbs_ast.specs.declared.syntax.Kind as kind
 
@@ -262,13 +259,6 @@ pub hold_stops : (two : Bool) (end depth : ℕ) (at : Span) (rest : List Token) 
 hold_stops two end depth at rest Memory stops = tt
 hold_stops two end depth at rest (Refused r) stops = λ h d. stops at h d
 
-pub hold_body_stops : (two : Bool) (bytes : List ℕ) (end depth : ℕ) (at : Span) (rest middle : List Token)
-    (x : SpecTerm) (e : ReadSpec) → ReadsGuard two bytes end depth rest x middle → StopsGroup two end depth middle e
-    → StopsItem two end depth (token HoldWord at ∷ rest) e
-hold_body_stops two bytes end depth at rest middle x Memory g stops = tt
-hold_body_stops two bytes end depth at rest middle x (Refused r) g stops = λ h d. g.goes_on at h d
-    ∙ stops (OfHold at g.open_at g.phrase g.close_at g.colon_at h) d
-
 pub trap_read : (two : Bool) (bytes : List ℕ) (end depth : ℕ) (abort_at then_at : Span)
     (old one two_of three new : List Token) (x y : Expr) (ex ey : Span) → old ≡ token AbortWord abort_at ∷ one
     → ReadsGroup two bytes end depth one x ex two_of → two_of ≡ token ThenWord then_at ∷ three
@@ -415,7 +405,7 @@ item_repeated two bytes end depth old behind new x e extent whole op at made f r
       shorter = let less = r.shorter in let one = ap length f in omega arith;
     }
 
-second_here : (two : Bool) → two ≡ true → Second two
+unfoldable pub second_here : (two : Bool) → two ≡ true → Second two
 second_here false e = absurd (false≢true e)
 second_here true e = tt
 
@@ -548,20 +538,13 @@ bounds_no_close end old one two_of three least most a c b p e q other =
 
 -- ---- lists
 
-row-bare : (n : _) (row : Row_of-Expr n) → bare_exprs row ≡ map bare_expr (items-the_row-Expr n row)
-row-bare n end_of-Expr = refl
-row-bare n (more_of-Expr at e rest) = ap (λ es. expr at (bare_kind e) ∷ es) (row-bare _ rest)
-
-bare-row : (items : List Expr) → bare_exprs (hidden-the_row-Expr-0 items) ≡ map bare_expr items
-bare-row items = row-bare _ (hidden-the_row-Expr-0 items) ∙ ap (map bare_expr) (items_hidden-the_row-Expr-0 items)
-
 bare-seq : (at : Span) (items : List Expr) → bare_expr (expr at (kind.Seq items)) ≡ expr at
     (kind.Seq (map bare_expr items))
-bare-seq at items = ap (λ es. expr at (kind.Seq es)) (bare-row items)
+bare-seq at items = ap (λ es. expr at (kind.Seq es)) (bare_exprs_of items)
 
 bare-choice : (at : Span) (items : List Expr) → bare_expr (expr at (kind.Choice items)) ≡ expr at
     (kind.Choice (map bare_expr items))
-bare-choice at items = ap (λ es. expr at (kind.Choice es)) (bare-row items)
+bare-choice at items = ap (λ es. expr at (kind.Choice es)) (bare_exprs_of items)
 
 seq_items-some : {two : Bool} (bytes : List ℕ) (s : SeqPhrase two) → 0 < length (seq_items bytes s)
 seq_items-some bytes (OneItem i) = omega arith

@@ -1,5 +1,5 @@
 -- A mark and its kind of token determine one another.
-use Rattle.std.proofs.Common.{◌≡◌, List, [], ◌∷◌, Option, Some, refl, sym, ap, ◌∙◌}
+use Rattle.std.proofs.Common.{◌≡◌, List, ◌∷◌, Some, sym, ap, ◌∙◌}
 use Rattle.pbs_text.specs.declared.token.Token.{Token}
 use Rattle.pbs_text.specs.declared.token.TokenKind.{TokenKind}
 use Rattle.pbs_text.specs.declared.token.TokenKind.TheVariants.{Name, SpecWord, MainWord, AbortWord, ThenWord}
@@ -13,29 +13,6 @@ use Rattle.pbs_descent.specs.declared.mark.Mark.TheVariants.{CloseRoundMark, Ope
 use Rattle.pbs_descent.specs.declared.mark.Mark.TheVariants.{StarMark, PlusMark, QuestionMark, AmpersandMark, ColonMark}
 use Rattle.pbs_text.specs.Grammar.{token}
 use Rattle.pbs_descent.specs.Marks.{kind_of, mark_of}
-use Rattle.pbs_descent.specs.Descent.{BeginsWith}
-
-mark_is : (m : Mark) → mark_of (kind_of m) ≡ Some m
-mark_is AName = refl
-mark_is Spec = refl
-mark_is Main = refl
-mark_is Abort = refl
-mark_is Then = refl
-mark_is SemicolonMark = refl
-mark_is CommaMark = refl
-mark_is EqualsMark = refl
-mark_is OpenCurlyMark = refl
-mark_is CloseCurlyMark = refl
-mark_is OpenRoundMark = refl
-mark_is CloseRoundMark = refl
-mark_is OpenSquareMark = refl
-mark_is CloseSquareMark = refl
-mark_is BarMark = refl
-mark_is StarMark = refl
-mark_is PlusMark = refl
-mark_is QuestionMark = refl
-mark_is AmpersandMark = refl
-mark_is ColonMark = refl
 
 kind_is : (k : TokenKind) (m : Mark) → Some m ≡ mark_of k → kind_of m ≡ k
 kind_is Name m e = let same : m ≡ AName = cc in ap kind_of same
@@ -65,11 +42,3 @@ pub marked : (old rest : List Token) (t : Token) (m mark : Mark) → old ≡ t �
     → old ≡ token (kind_of mark) t.span ∷ rest
 marked old rest t m mark e f same = e ∙ ap (λ k. token k t.span ∷ rest)
     (sym (ap kind_of (sym same) ∙ kind_is t.kind m f))
-
--- it is of another kind
-pub other_mark : (old rest : List Token) (t : Token) (o : Option Mark) (mark : Mark) → old ≡ t ∷ rest
-    → o ≡ mark_of t.kind → (o ≡ Some mark → ⊥) → BeginsWith (kind_of mark) old → ⊥
-other_mark [] rest t o mark e f other b = b
-other_mark (x ∷ xs) rest t o mark e f other b =
-    let same : x ≡ t = cc in
-    other (f ∙ (ap (λ y. mark_of y.kind) (sym same) ∙ (ap mark_of b ∙ mark_is mark)))

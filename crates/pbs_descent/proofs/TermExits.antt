@@ -1,27 +1,25 @@
 -- Each exit of the descent over terms, over plain variables.
-use Rattle.std.proofs.Common.{◌≡◌, ◌≢◌, ℕ, ◌+◌, ◌<◌, ◌≤◌, List, [], ◌∷◌, ◌++◌, length, map, Bool, None, Result, Ok}
-use Rattle.std.proofs.Common.{Err, refl, sym, ap, ap₂, ◌∙◌, false, true, arith, length-append}
-use Rattle.std.specs.Prelude.{nat_lt, option_map, IfOk, IfErr}
+use Rattle.std.proofs.Common.{◌≡◌, ◌≢◌, ℕ, ◌+◌, ◌<◌, ◌≤◌, List, [], ◌∷◌, ◌++◌, length, map, Bool, None, Result, Ok, Err}
+use Rattle.std.proofs.Common.{refl, sym, ap, ap₂, ◌∙◌, false, true, arith, length-append}
+use Rattle.std.specs.Prelude.{nat_lt, option_map, IfErr}
 use Rattle.std.proofs.lemmas.Bool.{false≢true}
 use Rattle.std.proofs.lemmas.Bool.Decides.{nat_tests}
-use Rattle.pbs_ast.specs.declared.syntax.SpecTerm.{SpecTerm, Row_of-SpecTerm, end_of-SpecTerm, more_of-SpecTerm}
-use Rattle.pbs_ast.specs.declared.syntax.SpecTerm.{items-the_row-SpecTerm, items_hidden-the_row-SpecTerm-0}
-use Rattle.pbs_ast.specs.declared.syntax.SpecTerm.TheBlock.{hidden-the_row-SpecTerm-0}
-use Rattle.pbs_text.specs.declared.fail.ReadSpec.{ReadSpec}
+use Rattle.pbs_ast.specs.declared.syntax.SpecTerm.{SpecTerm}
 use Rattle.pbs_text.specs.declared.fail.ReadSpec.TheVariants.{Refused}
-use Rattle.pbs_text.specs.Bare.{bare_term, bare_terms}
+use Rattle.pbs_ast.specs.Bare.{bare_term}
 use Rattle.pbs_text.specs.Trees.{word_at, one_or, all_node, any_node, unit_tree, all_items, term_items, all_tree}
-use Rattle.pbs_text.specs.Holes.{unit_nesting, TermHole, InRound, FirstAll, NextAll, UnitHole, UnderNot, FirstUnit}
-use Rattle.pbs_text.specs.Holes.{NextUnit}
+use Rattle.pbs_text.specs.places.Holes.{unit_nesting, TermHole, InRound, FirstAll, NextAll, UnitHole, UnderNot}
+use Rattle.pbs_text.specs.places.Holes.{FirstUnit, NextUnit}
 use Rattle.pbs_text.specs.places.Reading.{stepped, bind, ended, read}
-use Rattle.pbs_descent.specs.Descent.{BeginsWith, NoFront, front_refusal, behind_term, ReadsUnit, StopsUnit}
-use Rattle.pbs_descent.specs.Descent.{ReadsAll, ReadsTerm, AllSoFar, TermSoFar, negated_term, TakesNumeral}
-use Rattle.pbs_text.specs.Grammar.{token, Second, bit_kind, Numeral, ZeroNumeral, OneNumeral, TwoNumeral}
-use Rattle.pbs_text.specs.Grammar.{DigitNumeral, LongNumeral, numeral_kind, Negated, Bracketed, Named, Bit, Compared}
-use Rattle.pbs_text.specs.Grammar.{AllPhrase, OneUnit, MoreUnits, TermPhrase, OneAll, MoreAlls}
+use Rattle.pbs_descent.specs.Descent.{BeginsWith, NoFront, front_refusal, behind_term, ReadsUnit, StopsUnit, ReadsAll}
+use Rattle.pbs_descent.specs.Descent.{ReadsTerm, AllSoFar, TermSoFar, negated_term, TakesNumeral}
+use Rattle.pbs_text.specs.Grammar.{token, Second, bit_kind, Numeral, ZeroNumeral, OneNumeral, TwoNumeral, DigitNumeral}
+use Rattle.pbs_text.specs.Grammar.{LongNumeral, numeral_kind, Negated, Bracketed, Named, Bit, Compared, AllPhrase}
+use Rattle.pbs_text.specs.Grammar.{OneUnit, MoreUnits, TermPhrase, OneAll, MoreAlls}
 use Rattle.pbs_text.specs.places.Places.{WantsUnit, AfterUnitName, WantsNumber}
 use Rattle.pbs_text.specs.places.Steps.{second, numeral_of, with_unit, step}
 use Rattle.std.proofs.lemmas.List.{map-append, length-map}
+use Rattle.pbs_ast.proofs.BareRows.{bare_terms_of}
 use Rattle.pbs_base.specs.declared.refusal.Span.{Span}
 use Rattle.pbs_text.specs.declared.token.Token.{Token}
 use Rattle.pbs_text.specs.declared.token.TokenKind.{TokenKind}
@@ -116,16 +114,6 @@ pub named_ok : (two : Bool) (bytes : List ℕ) (end depth : ℕ) (at equals_at :
     → ReadsUnit two bytes end depth (token Name at ∷ rest) x new
 named_ok two bytes end depth at equals_at rest behind new x e r = rw e r
 
-pub named_stops : (two : Bool) (end depth : ℕ) (at equals_at : Span) (rest behind : List Token) (e : ReadSpec)
-    → rest ≡ token Equals equals_at ∷ behind
-    → StopsUnit two end depth (token Name at ∷ token Equals equals_at ∷ behind) e
-    → StopsUnit two end depth (token Name at ∷ rest) e
-named_stops two end depth at equals_at rest behind e is r = rw is r
-
-pub ok_then : {T E : Type 0} (r : Result T E) {P Q : T → Type 0} → IfOk r P → ((x : T) → P x → Q x) → IfOk r Q
-ok_then (Ok x) h f = f x h
-ok_then (Err e) h f = tt
-
 pub err_then : {T E : Type 0} (r : Result T E) {P Q : E → Type 0} → IfErr r P → ((x : E) → P x → Q x) → IfErr r Q
 err_then (Ok x) h f = tt
 err_then (Err e) h f = f e h
@@ -164,19 +152,11 @@ bracketed two bytes end depth at close_at rest behind new x not_full within e r 
 
 -- ---- lists
 
-row-bare : (n : _) (row : Row_of-SpecTerm n) → bare_terms row ≡ map bare_term (items-the_row-SpecTerm n row)
-row-bare n end_of-SpecTerm = refl
-row-bare n (more_of-SpecTerm t rest) = ap (λ ts. bare_term t ∷ ts) (row-bare _ rest)
-
-bare-row : (items : List SpecTerm) → bare_terms (hidden-the_row-SpecTerm-0 items) ≡ map bare_term items
-bare-row items = row-bare _ (hidden-the_row-SpecTerm-0 items)
-    ∙ ap (map bare_term) (items_hidden-the_row-SpecTerm-0 items)
-
 pub bare-all : (items : List SpecTerm) → bare_term (node.All items) ≡ node.All (map bare_term items)
-bare-all items = ap node.All (bare-row items)
+bare-all items = ap node.All (bare_terms_of items)
 
 pub bare-any : (items : List SpecTerm) → bare_term (node.Any items) ≡ node.Any (map bare_term items)
-bare-any items = ap node.Any (bare-row items)
+bare-any items = ap node.Any (bare_terms_of items)
 
 pub one_or-many : {A B : Type 0} (f : A → B) (items : List A) (node : B) → (length items ≡ 1 → ⊥)
     → one_or (map f items) node ≡ node

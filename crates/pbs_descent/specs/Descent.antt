@@ -4,19 +4,18 @@ use Rattle.pbs_base.specs.declared.refusal.Span.{Span}
 use Rattle.pbs_base.specs.declared.refusal.Refusal.{Refusal}
 use Rattle.pbs_ast.specs.declared.syntax.SpecTerm.{SpecTerm}
 use Rattle.pbs_ast.specs.declared.syntax.Expr.{Expr}
-use Rattle.pbs_text.specs.Bare.{no_place}
+use Rattle.pbs_ast.specs.Bare.{no_place}
 use Rattle.pbs_text.specs.Grammar.{token, Second, Numeral, numeral_kind, TermPhrase, OneAll, MoreAlls, SeqPhrase}
 use Rattle.pbs_text.specs.Grammar.{OneItem, MoreItems, Counted, ExprPhrase, OneSeq, MoreSeqs, PrimPhrase, Try}
 use Rattle.pbs_text.specs.Grammar.{GroupPhrase}
 use Rattle.pbs_text.specs.Trees.{numeral_value, unit_tree, all_tree, term_tree, all_items, term_items, seq_items}
 use Rattle.pbs_text.specs.Trees.{expr_items, group_tree, prim_tree, item_tree, seq_tree, expr_tree, group_extent}
 use Rattle.pbs_text.specs.Trees.{prim_extent, item_extent, seq_extent, expr_extent}
-use Rattle.pbs_text.specs.Holes.{ExprHole, SeqHole, FirstSeq, NextSeq, ItemHole, FirstItem, NextItem, OfHold}
-use Rattle.pbs_text.specs.Holes.{TermHole, AllHole, FirstAll, NextAll, FirstUnit, expr_nesting, seq_nesting}
-use Rattle.pbs_text.specs.Holes.{item_nesting, group_nesting, term_nesting, all_nesting, unit_nesting}
+use Rattle.pbs_text.specs.places.Holes.{ExprHole, SeqHole, FirstSeq, NextSeq, ItemHole, FirstItem, NextItem, OfHold}
+use Rattle.pbs_text.specs.places.Holes.{TermHole, AllHole, FirstAll, NextAll, FirstUnit, expr_nesting, seq_nesting}
+use Rattle.pbs_text.specs.places.Holes.{item_nesting, group_nesting, term_nesting, all_nesting, unit_nesting}
 use Rattle.pbs_text.specs.places.Places.{Place, WantsItem, WantsGroup, AfterHold, AfterBody, AfterPrim, AfterItem}
-use Rattle.pbs_text.specs.places.Places.{WantsLeast}
-use Rattle.pbs_text.specs.places.Places.{WantsUnit, AfterUnit}
+use Rattle.pbs_text.specs.places.Places.{WantsLeast, WantsUnit, AfterUnit}
 use Rattle.pbs_text.specs.places.Steps.{with_unit, with_group}
 use Rattle.pbs_text.specs.places.Reading.{read}
 use Rattle.pbs_text.specs.Refusals.{refusal, point}

@@ -1,13 +1,13 @@
 // Expressions.
 ghost use Rattle.std.specs.Prelude.{ℕ, ◌≡◌, ◌≤◌, ◌<◌, ◌+◌, ◌∷◌, ◌++◌, [], length, true, IfOk, IfErr, MatchOption};
-ghost use Rattle.pbs_text.specs.Bare.{bare_term, bare_expr, expr};
+ghost use Rattle.pbs_ast.specs.Bare.{bare_term, bare_expr, expr};
 ghost use Rattle.pbs_text.specs.Trees.{joined, operator_node, repeat_node, scope_node, word_at};
 ghost use Rattle.pbs_text.specs.Grammar.{token};
 ghost use Rattle.pbs_text.specs.places.Places.{WantsItem};
-ghost use Rattle.pbs_text.specs.Holes.{item_nesting};
-ghost use Rattle.pbs_descent.specs.Descent.{Stops, ReadsGroup, StopsGroup, ReadsPrim, ReadsItem, StopsItem};
-ghost use Rattle.pbs_descent.specs.Descent.{ReadsSeq, StopsSeq, ReadsExpr, StopsExpr, ReadsBounds, StopsBounds};
-ghost use Rattle.pbs_descent.specs.Descent.{ReadsGuard, after_hold, ReadsTrap, StopsTrap, BeginsWith};
+ghost use Rattle.pbs_text.specs.places.Holes.{item_nesting};
+ghost use Rattle.pbs_descent.specs.Descent.{Stops, ReadsGroup, StopsGroup, ReadsPrim, ReadsItem, StopsItem, ReadsSeq};
+ghost use Rattle.pbs_descent.specs.Descent.{StopsSeq, ReadsExpr, StopsExpr, ReadsBounds, StopsBounds, ReadsGuard};
+ghost use Rattle.pbs_descent.specs.Descent.{after_hold, ReadsTrap, StopsTrap, BeginsWith};
 ghost use Rattle.pbs_text.specs.declared.token.TokenKind.TheVariants.{Name, OpenCurly, OpenSquare, HoldWord, TryWord};
 ghost use Rattle.pbs_text.specs.declared.token.TokenKind.TheVariants.{Comma, Bar};
 

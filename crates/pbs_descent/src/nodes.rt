@@ -1,6 +1,6 @@
 // The nodes of an expression.
 ghost use Rattle.std.specs.Prelude.{ℕ, ◌≡◌, IfOk, IfErr};
-ghost use Rattle.pbs_text.specs.Bare.{bare_expr, bare_term, expr};
+ghost use Rattle.pbs_ast.specs.Bare.{bare_expr, bare_term, expr};
 ghost use Rattle.pbs_text.specs.Trees.{operator_node, repeat_node, hold_node, scope_node};
 
 use pbs_ast::{Expr, Kind, SpecTerm};

@@ -1,12 +1,12 @@
 // Terms.
 ghost use Rattle.std.specs.Prelude.{ℕ, ◌≡◌, ◌≤◌, ◌<◌, ◌+◌, ◌∷◌, ◌++◌, [], length, true, IfOk, IfErr, MatchOption};
 ghost use Rattle.pbs_ast.specs.declared.syntax.SpecTerm as node;
-ghost use Rattle.pbs_text.specs.Bare.{bare_term};
+ghost use Rattle.pbs_ast.specs.Bare.{bare_term};
 ghost use Rattle.pbs_text.specs.Grammar.{token};
 ghost use Rattle.pbs_text.specs.Trees.{unit_tree};
 ghost use Rattle.pbs_descent.specs.Marks.{kind_of};
-ghost use Rattle.pbs_descent.specs.Descent.{ReadsUnit, StopsUnit, ReadsAll, StopsAll, ReadsTerm, StopsTerm};
-ghost use Rattle.pbs_descent.specs.Descent.{BeginsWith, front_refusal, negated_term};
+ghost use Rattle.pbs_descent.specs.Descent.{ReadsUnit, StopsUnit, ReadsAll, StopsAll, ReadsTerm, StopsTerm, BeginsWith};
+ghost use Rattle.pbs_descent.specs.Descent.{front_refusal, negated_term};
 ghost use Rattle.pbs_text.specs.declared.token.TokenKind.TheVariants.{Name, Equals, Tilde, OpenRound, Ampersand, Bar};
 
 use crate::common::{MAX_NESTING, behind, front, numeral, refused, second, stop, word};

@@ -13,7 +13,7 @@ use Rattle.pbs_expand.specs.Visits.{Visit, visits, after_visits, first_over}
 use Rattle.pbs_expand.specs.Expanded.{nothing_yet, main_walk, expanded, over_limit, over_width, first_refusal, refusal}
 use Rattle.pbs_expand.proofs.Counted.{none_over}
 use Rattle.pbs_expand.proofs.Limits.{adds}
-use Rattle.pbs_lex.proofs.Found.{both}
+use Rattle.std.proofs.lemmas.Bool.{and_parts}
 
 -- the counters are within the limits
 record IsWithin (c : Counters) : Type 0 where
@@ -22,7 +22,7 @@ record IsWithin (c : Counters) : Type 0 where
 
 fits-within : (c d : Counters) → fits c d ≡ true → IsWithin (sum_of c d)
 fits-within c d h =
-    let two = both (nat_le (c.counts + d.counts) 32768) (nat_le (c.places + d.places) 4096) h in
+    let two = and_parts (nat_le (c.counts + d.counts) 32768) (nat_le (c.places + d.places) 4096) h in
     record { counts = below (c.counts + d.counts) 32768 two.0; places = below (c.places + d.places) 4096 two.1 }
   where
     below : (m n : ℕ) → nat_le m n ≡ true → m ≤ n
@@ -38,7 +38,7 @@ visits_within (v ∷ vs) c h none =
         → IsWithin (after_visits (sum_of c v.cost) vs))
         → (if b then first_over (sum_of c v.cost) vs else Some v.span) ≡ None
         → IsWithin (after_visits (sum_of c v.cost) vs)
-    by true e on none = on (fits-within c v.cost (both (not v.too_deep) (fits c v.cost) e).1) none
+    by true e on none = on (fits-within c v.cost (and_parts (not v.too_deep) (fits c v.cost) e).1) none
     by false e on none = absurd cc
 
 none_first : (a b : Option Span) → first_refusal a b ≡ None → a ≡ None

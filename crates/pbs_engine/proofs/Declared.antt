@@ -17,12 +17,12 @@ use Rattle.pbs_text.specs.Trees.{word_at, declared, input_of, inputs_of, names_o
 use Rattle.pbs_text.specs.Trees.{text_spec}
 use Rattle.pbs_text.specs.Lexing.{is_word_byte}
 use Rattle.pbs_text.specs.Answers.{StandsFor}
-use Rattle.pbs_rules.specs.Naming.{bit_name, bit_names, input_names, action_names}
+use Rattle.pbs_names.specs.Naming.{bit_name, bit_names, input_names, action_names}
 use Rattle.pbs_engine.specs.inner.NameWords.{begins_word, IsWord, AreWords}
 use Rattle.pbs_lex.proofs.Found.{pick, word_byte, FoundAs, AreFound, found_parts, tokens_found}
 use Rattle.pbs_engine.proofs.Lists.{Each, each-append, each_at}
 use Rattle.pbs_text.specs.declared.token.TokenKind.TheVariants as kind
-use Rattle.pbs_rules.specs.Naming as naming
+use Rattle.pbs_names.specs.Naming as naming
 
 -- ---- declarations
 

@@ -9,7 +9,7 @@ use Rattle.pbs_io.specs.Outside.{ShelfState, SinkState, NamedFile, has_file}
 use Rattle.pbs_io.proofs.ReadLemmas.{GoesOn-refl}
 use Rattle.pbs_io.proofs.WrittenLemmas.{append_known-nil}
 use Rattle.pbs_ast.specs.declared.syntax.Spec.{Spec}
-use Rattle.pbs_rules.specs.Naming.{action_names}
+use Rattle.pbs_names.specs.Naming.{action_names}
 use Rattle.net_core.specs.Rows.{Row}
 use Rattle.net_core.specs.Circuits.{Circuit}
 use Rattle.net_core.specs.Runs.{output_value}

@@ -3,9 +3,9 @@ use Rattle.std.proofs.Common.{◌≤◌, ℕ, List, length, Ok, Err}
 use Rattle.pbs_base.specs.declared.refusal.Refusal.{Refusal}
 use Rattle.pbs_ast.specs.declared.syntax.Spec.{Spec}
 use Rattle.pbs_ast.specs.Trees.{tree_of}
-use Rattle.pbs_rules.specs.Naming.{input_names}
+use Rattle.pbs_names.specs.Naming.{input_names}
 use Rattle.pbs_text.specs.Answers.{StandsFor}
-use Rattle.pbs_text.specs.Bare.{bare}
+use Rattle.pbs_ast.specs.Bare.{bare}
 use Rattle.pbs_check.specs.Checked.{IsUnbroken, By9, By10}
 use Rattle.pbs_expand.specs.Expanded.{Gives}
 use Rattle.pbs_expand.specs.Ready.{IsReady, NamesDeclared}

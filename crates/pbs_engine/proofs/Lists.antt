@@ -4,7 +4,7 @@ use Rattle.std.proofs.Common.{true, refl, subst, arith}
 use Rattle.std.specs.Prelude.{slice_get}
 use Rattle.std.specs.List.{list_all}
 use Rattle.std.proofs.lemmas.Option.{same_Some}
-use Rattle.pbs_lex.proofs.Found.{both}
+use Rattle.std.proofs.lemmas.Bool.{and_parts}
 
 abbrev pub Each : {A : Type 0} → (A → Type 0) → List A → Type 0
 Each P [] = Unit {0}
@@ -41,4 +41,4 @@ get-map f (x ∷ xs) (suc n) y e = get-map f xs n y e
 pub all_so : (p q : ℕ → Bool) (w : List ℕ) → ((b : ℕ) → p b ≡ true → q b ≡ true) → list_all p w ≡ true
     → list_all q w ≡ true
 all_so p q [] f h = refl
-all_so p q (b ∷ w) f h = let two = both (p b) (list_all p w) h in rw (f b two.0) (all_so p q w f two.1)
+all_so p q (b ∷ w) f h = let two = and_parts (p b) (list_all p w) h in rw (f b two.0) (all_so p q w f two.1)

@@ -3,8 +3,8 @@ use Rattle.std.proofs.Common.{◌≡◌, ℕ, List, Some, None, Err, sym, ap, su
 use Rattle.pbs_base.specs.declared.refusal.Span.{Span}
 use Rattle.pbs_ast.specs.Trees.{tree_of}
 use Rattle.pbs_ast.specs.Sound.{or_else}
-use Rattle.pbs_rules.specs.Naming.{input_names, action_names}
-use Rattle.pbs_text.specs.Bare.{bare}
+use Rattle.pbs_names.specs.Naming.{input_names, action_names}
+use Rattle.pbs_ast.specs.Bare.{bare}
 use Rattle.net_core.specs.Circuits.{Circuit}
 use Rattle.pbs_controller.specs.Controllers.{IsController}
 use Rattle.pbs_engine.specs.declared.fail.EngineFail.{EngineFail}

@@ -10,7 +10,7 @@ use Rattle.pbs_ast.specs.declared.syntax.Spec.{Spec}
 use Rattle.pbs_ast.specs.Trees.{Tree, Empty, Terminal, Action, Seq, Choice, Star, Hold, Scope, has_no_scope}
 use Rattle.pbs_ast.specs.Sound.{or_else, node_count, place_count, tree_input_leaves}
 use Rattle.pbs_text.specs.Answers.{StandsFor}
-use Rattle.pbs_rules.specs.Naming.{input_names, action_names}
+use Rattle.pbs_names.specs.Naming.{input_names, action_names}
 use Rattle.pbs_check.specs.Checked.{IsUnbroken}
 use Rattle.pbs_expand.specs.Expanded.{expanded}
 use Rattle.net_core.specs.Circuits.{Circuit}

@@ -10,7 +10,7 @@ use Rattle.pbs_ast.specs.declared.syntax.Spec.{Spec}
 use Rattle.pbs_ast.specs.Trees.{Tree, Empty, Terminal, Action, Seq, Choice, Star, Hold, Scope, tree_of}
 use Rattle.pbs_ast.specs.Sound.{or_else}
 use Rattle.pbs_text.specs.Answers.{StandsFor, IsRefusedBy}
-use Rattle.pbs_text.specs.Bare.{bare}
+use Rattle.pbs_ast.specs.Bare.{bare}
 use Rattle.pbs_check.specs.Checked.{IsFirst, IsUnbroken}
 use Rattle.pbs_expand.specs.Expanded.{expanded, refusal}
 use Rattle.pbs_expand.specs.Ready.{NamesDeclared}

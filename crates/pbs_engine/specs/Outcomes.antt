@@ -4,7 +4,7 @@ use Rattle.pbs_base.specs.Entries.{since}
 use Rattle.pbs_base.specs.declared.entry.Entry.{Entry}
 use Rattle.pbs_base.specs.declared.refusal.Refusal.{Refusal}
 use Rattle.pbs_ast.specs.declared.syntax.Spec.{Spec}
-use Rattle.pbs_rules.specs.Naming.{input_names, action_names}
+use Rattle.pbs_names.specs.Naming.{input_names, action_names}
 use Rattle.pbs_expand.specs.Expanded.{expanded}
 use Rattle.pbs_derive.specs.Derivations.{fires}
 use Rattle.trace_text.specs.Reports.{rows_text}

@@ -2,8 +2,8 @@
 ghost use Rattle.std.specs.Prelude.{◌≡◌, None, IfOk};
 ghost use Rattle.pbs_ast.specs.Sound.{or_else};
 ghost use Rattle.pbs_ast.specs.Trees.{tree_of};
-ghost use Rattle.pbs_text.specs.Bare.{bare};
-ghost use Rattle.pbs_rules.specs.Naming.{action_names, input_names};
+ghost use Rattle.pbs_ast.specs.Bare.{bare};
+ghost use Rattle.pbs_names.specs.Naming.{action_names, input_names};
 ghost use Rattle.pbs_check.specs.Checked.{IsUnbroken};
 ghost use Rattle.pbs_expand.specs.Ready.{NamesDeclared};
 ghost use Rattle.pbs_controller.specs.Controllers.{IsController};
@@ -17,7 +17,7 @@ use pbs_ast::{Spec, Tree, TreeKind};
 use pbs_base::{Memory, Names, Refusal, Span, Subject};
 use pbs_check::laws::{declared_once, within_limits};
 use pbs_controller::build_controller;
-use pbs_rules::{action_words, input_words};
+use pbs_names::{action_words, input_words};
 use std::alloc::Global;
 
 // The first span, or else the second.

@@ -1,15 +1,15 @@
 // From the text of a specification to its tree.
 ghost use Rattle.std.specs.Prelude.{◌≡◌};
 ghost use Rattle.pbs_text.specs.Answers.{StandsFor};
-ghost use Rattle.pbs_text.specs.Bare.{bare};
+ghost use Rattle.pbs_ast.specs.Bare.{bare};
 ghost use Rattle.pbs_check.specs.Checked.{IsUnbroken};
 ghost use Rattle.pbs_engine.specs.Accepted.{Checks, Finds};
 
 use crate::fail::EngineFail;
 use pbs_ast::{Main, Spec};
-use pbs_bare::{same_expansion, same_rules};
-use pbs_check::laws::within_limits;
+use pbs_check::laws::{same_rules, within_limits};
 use pbs_check::{Check, check_spec};
+use pbs_expand::laws::same_expansion;
 use pbs_expand::{Expand, expand};
 use pbs_read::read_spec;
 use pbs_text::ReadSpec;

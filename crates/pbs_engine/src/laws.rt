@@ -6,7 +6,7 @@ ghost use Rattle.pbs_engine.specs.Accepted.{Breaks, IsAccepted, IsNotCompiled, I
 ghost use Rattle.net_trace.specs.Outcomes.{Outcome};
 ghost use Rattle.pbs_engine.specs.Outcomes.{TextGives};
 ghost use Rattle.pbs_text.specs.Answers.{StandsFor};
-ghost use Rattle.pbs_rules.specs.Naming.{action_names, input_names};
+ghost use Rattle.pbs_names.specs.Naming.{action_names, input_names};
 ghost use Rattle.pbs_check.specs.Checked.{IsUnbroken};
 ghost use Rattle.net_core.specs.Circuits.{Circuit};
 ghost use Rattle.vlog_text.specs.Emitted.{emitted};

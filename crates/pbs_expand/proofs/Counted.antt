@@ -4,14 +4,15 @@ use Rattle.std.proofs.Common.{Option, Some, None, length, take, drop, refl, sym,
 use Rattle.std.specs.Prelude.{if◌then◌else◌}
 use Rattle.std.specs.Cmp.Lexicographic.{pointwise}
 use Rattle.std.proofs.lemmas.Bool.Decides.{nat_tests}
+use Rattle.std.proofs.lemmas.Bool.{and_parts, and_from}
 use Rattle.pbs_base.specs.declared.refusal.Span.{Span}
 use Rattle.bool_terms.specs.Terms.{Term, term_inputs_below, Input, Not}
 use Rattle.pbs_ast.specs.Sound.{tree_depth, inputs_below, actions_below}
 use Rattle.pbs_base.specs.Entries.{bit}
 use Rattle.pbs_ast.specs.declared.syntax.Decl.{Decl}
 use Rattle.pbs_ast.specs.declared.syntax.Spec.{Spec}
-use Rattle.pbs_rules.specs.Naming.{index_of, input_names, action_names, bus_of}
-use Rattle.pbs_rules.specs.declared.buses.Bus.{Bus}
+use Rattle.pbs_names.specs.Naming.{index_of, input_names, action_names, bus_of}
+use Rattle.pbs_names.specs.declared.buses.Bus.{Bus}
 use Rattle.pbs_ast.specs.declared.syntax.SpecTerm as terms
 use Rattle.pbs_ast.specs.declared.syntax.SpecTerm.{Row_of-SpecTerm, end_of-SpecTerm, more_of-SpecTerm}
 use Rattle.pbs_expand.specs.declared.parts.Pairing.TheVariants.{Sequence, Choice}
@@ -25,9 +26,8 @@ use Rattle.pbs_expand.specs.Walks.{Walk, Beyond, Empty, Terminal, Action, Name, 
 use Rattle.pbs_expand.specs.Walks.{action_walk, complete}
 use Rattle.pbs_expand.specs.Written.{joined, both, empty_term, written, written_row, named_term, literals, equal_term}
 use Rattle.pbs_expand.specs.Visits.{Visit, visits, after_visits, first_over, numbered}
-use Rattle.pbs_rules.proofs.NameLemmas.{number_within, bus_within}
+use Rattle.pbs_names.proofs.NameLemmas.{number_within, bus_within}
 use Rattle.pbs_expand.proofs.VisitLaws.{or_else, first_over-append}
-use Rattle.pbs_expand.proofs.Limits.{both_true, true_both}
 
 neither : (a b : Option Span) → or_else a b ≡ None → (a ≡ None) × (b ≡ None)
 neither None b h = (refl, h)
@@ -53,12 +53,12 @@ none_over (Hold span b w) c h = none_over w (sum_of c (hold_cost b)) (went_on (f
 none_over (Pair span by v w) c h =
     let d = sum_of c node_cost in
     let two = parts_none (visits v) (visits w) d (went_on (fits c node_cost) _ span h) in
-    true_both _ _ (none_over v d two.0) (none_over w (after_visits d (visits v)) two.1)
+    and_from _ _ (none_over v d two.0) (none_over w (after_visits d (visits v)) two.1)
 none_over (Scope span v w x) c h =
     let d = sum_of c scope_cost in
     let two = parts_none (visits v) (visits w ++ visits x) d (went_on (fits c scope_cost) _ span h) in
     let rest = parts_none (visits w) (visits x) (after_visits d (visits v)) two.1 in
-    true_both _ _ (none_over v d two.0) (true_both _ _ (none_over w (after_visits d (visits v)) rest.0)
+    and_from _ _ (none_over v d two.0) (and_from _ _ (none_over w (after_visits d (visits v)) rest.0)
     (none_over x (after_visits (after_visits d (visits v)) (visits w)) rest.1))
 
 shallow_action : (span : Span) (o : Option ℕ) (room : ℕ) (c : Counters)
@@ -79,14 +79,14 @@ shallow_node spec w room below (parts.Star span p) c whole = omega (arith, below
 shallow_node spec w room below (parts.Hold span t p) c whole = omega
     (arith, below p (sum_of c (hold_cost (written spec.inputs t))) whole)
 shallow_node spec w room below (parts.Pair span Sequence p q) c whole =
-    let d = sum_of c node_cost in let two = both_true (complete (w p)) (complete (w q)) whole in
+    let d = sum_of c node_cost in let two = and_parts (complete (w p)) (complete (w q)) whole in
     omega (arith, below p d two.0, below q (after_visits d (visits (w p))) two.1)
 shallow_node spec w room below (parts.Pair span Choice p q) c whole =
-    let d = sum_of c node_cost in let two = both_true (complete (w p)) (complete (w q)) whole in
+    let d = sum_of c node_cost in let two = and_parts (complete (w p)) (complete (w q)) whole in
     omega (arith, below p d two.0, below q (after_visits d (visits (w p))) two.1)
 shallow_node spec w room below (parts.Scope span p q r) c whole =
     let d = sum_of c scope_cost in let e = after_visits d (visits (w p)) in
-    let two = both_true (complete (w p)) (complete (w q) && complete (w r)) whole in let rest = both_true
+    let two = and_parts (complete (w p)) (complete (w q) && complete (w r)) whole in let rest = and_parts
     (complete (w q)) (complete (w r)) two.1 in
     omega (arith, below p d two.0, below q e rest.0, below r (after_visits e (visits (w q))) rest.1)
 
@@ -105,18 +105,18 @@ all_below n (t ∷ ts) = term_inputs_below n t && all_below n ts
 below_take : (n : ℕ) (ts : List Term) (k : ℕ) → all_below n ts ≡ true → all_below n (take k ts) ≡ true
 below_take n ts zero h = refl
 below_take n [] (suc k) h = refl
-below_take n (t ∷ ts) (suc k) h = let two = both_true (term_inputs_below n t) (all_below n ts) h in true_both _ _
+below_take n (t ∷ ts) (suc k) h = let two = and_parts (term_inputs_below n t) (all_below n ts) h in and_from _ _
     two.0 (below_take n ts k two.1)
 
 below_drop : (n : ℕ) (ts : List Term) (k : ℕ) → all_below n ts ≡ true → all_below n (drop k ts) ≡ true
 below_drop n ts zero h = h
 below_drop n [] (suc k) h = refl
-below_drop n (t ∷ ts) (suc k) h = below_drop n ts k (both_true (term_inputs_below n t) (all_below n ts) h).1
+below_drop n (t ∷ ts) (suc k) h = below_drop n ts k (and_parts (term_inputs_below n t) (all_below n ts) h).1
 
 below_both : (n : ℕ) (by : Connective) (t u : Term) → term_inputs_below n t ≡ true → term_inputs_below n u ≡ true
     → term_inputs_below n (both by t u) ≡ true
-below_both n AndOf t u p q = true_both _ _ p q
-below_both n OrOf t u p q = true_both _ _ p q
+below_both n AndOf t u p q = and_from _ _ p q
+below_both n OrOf t u p q = and_from _ _ p q
 
 below_empty : (n : ℕ) (by : Connective) → term_inputs_below n (empty_term by) ≡ true
 below_empty n AndOf = refl
@@ -126,7 +126,7 @@ below_joined : (n room : ℕ) (by : Connective) (ts : List Term) → all_below n
     → term_inputs_below n (joined room by ts) ≡ true
 below_joined n zero by ts h = below_empty n by
 below_joined n (suc room) by [] h = below_empty n by
-below_joined n (suc room) by (t ∷ []) h = (both_true (term_inputs_below n t) true h).0
+below_joined n (suc room) by (t ∷ []) h = (and_parts (term_inputs_below n t) true h).0
 below_joined n (suc room) by (t ∷ u ∷ ts) h =
     let all = t ∷ u ∷ ts in let half = (length all + 1) / 2 in
     below_both n by (joined room by (take half all)) (joined room by (drop half all))
@@ -146,7 +146,7 @@ below_literals : (n start number k count : ℕ) → start + (k + count) ≤ n
     → all_below n (literals start number k count) ≡ true
 below_literals n start number k zero fits = refl
 below_literals n start number k (suc count) fits =
-    true_both _ _ (below_literal (bit k number)) (below_literals n start number (k + 1) count (omega (arith, fits)))
+    and_from _ _ (below_literal (bit k number)) (below_literals n start number (k + 1) count (omega (arith, fits)))
   where
     below_literal : (b : Bool) → term_inputs_below n (if b then Input (start + k) else Not (Input (start + k))) ≡ true
     below_literal true = below_test (start + k) n (omega (arith, fits))
@@ -177,7 +177,7 @@ abbrev mutual
   below_row : (n : ℕ) (inputs : List Decl) → length (input_names inputs) ≤ n → {m : _} (row : Row_of-SpecTerm m)
       → all_below n (written_row inputs row) ≡ true
   below_row n inputs few end_of-SpecTerm = refl
-  below_row n inputs few (more_of-SpecTerm t rest) = true_both _ _ (below_written n inputs few t)
+  below_row n inputs few (more_of-SpecTerm t rest) = and_from _ _ (below_written n inputs few t)
       (below_row n inputs few rest)
 
 ranged_action : (n : ℕ) (span : Span) (o : Option ℕ) (c : Counters)
@@ -194,15 +194,15 @@ ranged_node n spec w few below (parts.Action span name) c = ranged_action n span
     (index_of (action_names spec.actions) name) c
 ranged_node n spec w few below (parts.Name span p) c = below p (sum_of c name_cost)
 ranged_node n spec w few below (parts.Star span p) c = below p (sum_of c node_cost)
-ranged_node n spec w few below (parts.Hold span t p) c = true_both _ _ (below_written n spec.inputs few t)
+ranged_node n spec w few below (parts.Hold span t p) c = and_from _ _ (below_written n spec.inputs few t)
     (below p (sum_of c (hold_cost (written spec.inputs t))))
 ranged_node n spec w few below (parts.Pair span Sequence p q) c =
-    let d = sum_of c node_cost in true_both _ _ (below p d) (below q (after_visits d (visits (w p))))
+    let d = sum_of c node_cost in and_from _ _ (below p d) (below q (after_visits d (visits (w p))))
 ranged_node n spec w few below (parts.Pair span Choice p q) c =
-    let d = sum_of c node_cost in true_both _ _ (below p d) (below q (after_visits d (visits (w p))))
+    let d = sum_of c node_cost in and_from _ _ (below p d) (below q (after_visits d (visits (w p))))
 ranged_node n spec w few below (parts.Scope span p q r) c =
     let d = sum_of c scope_cost in let e = after_visits d (visits (w p)) in
-    true_both _ _ (below p d) (true_both _ _ (below q e) (below r (after_visits e (visits (w q)))))
+    and_from _ _ (below p d) (and_from _ _ (below q e) (below r (after_visits e (visits (w q)))))
 
 -- every input in the tree is a declared one
 pub ranged : (n : ℕ) (spec : Spec) (room : ℕ) → length (input_names spec.inputs) ≤ n → (p : Part) (c : Counters)
@@ -229,12 +229,12 @@ acted_node n spec w few below (parts.Name span p) c = below p (sum_of c name_cos
 acted_node n spec w few below (parts.Star span p) c = below p (sum_of c node_cost)
 acted_node n spec w few below (parts.Hold span t p) c = below p (sum_of c (hold_cost (written spec.inputs t)))
 acted_node n spec w few below (parts.Pair span Sequence p q) c =
-    let d = sum_of c node_cost in true_both _ _ (below p d) (below q (after_visits d (visits (w p))))
+    let d = sum_of c node_cost in and_from _ _ (below p d) (below q (after_visits d (visits (w p))))
 acted_node n spec w few below (parts.Pair span Choice p q) c =
-    let d = sum_of c node_cost in true_both _ _ (below p d) (below q (after_visits d (visits (w p))))
+    let d = sum_of c node_cost in and_from _ _ (below p d) (below q (after_visits d (visits (w p))))
 acted_node n spec w few below (parts.Scope span p q r) c =
     let d = sum_of c scope_cost in let e = after_visits d (visits (w p)) in
-    true_both _ _ (below p d) (true_both _ _ (below q e) (below r (after_visits e (visits (w q)))))
+    and_from _ _ (below p d) (and_from _ _ (below q e) (below r (after_visits e (visits (w q)))))
 
 -- every action in the tree is a declared one
 pub acted : (n : ℕ) (spec : Spec) (room : ℕ) → length (action_names spec.actions) ≤ n → (p : Part) (c : Counters)

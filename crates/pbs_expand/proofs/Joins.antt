@@ -1,30 +1,16 @@
 -- Terms joined by halves.
-use Rattle.std.proofs.Common.{◌≡◌, ◌≤◌, ℕ, zero, suc, ◌+◌, ◌-◌, ◌/◌, List, [], ◌∷◌, ◌++◌, length, take, drop, map, refl}
-use Rattle.std.proofs.Common.{sym, ap, subst, ◌∙◌, arith, length-append}
+use Rattle.std.proofs.Common.{◌≡◌, ◌≤◌, ℕ, zero, suc, ◌+◌, ◌-◌, ◌/◌, List, [], ◌∷◌, length, take, drop, map, refl, sym}
+use Rattle.std.proofs.Common.{ap, subst, ◌∙◌, arith}
 use Rattle.pbs_base.specs.declared.fail.Memory.{Memory}
-use Rattle.std.specs.Prelude.{IfOk, Result, Ok, Err}
+use Rattle.std.specs.Prelude.{IfOk, Result}
 use Rattle.std.proofs.lemmas.List.{length-take-le, length-drop, length-map, take-map, drop-map}
+use Rattle.pbs_ast.proofs.Items.{ok_then}
 use Rattle.bool_terms.specs.Terms.{Term, term_of, term_nodes}
 use Rattle.bool_terms.specs.declared.Term as terms
 use Rattle.pbs_expand.specs.declared.terms.Connective.{Connective}
 use Rattle.pbs_expand.specs.declared.terms.Connective.TheVariants.{AndOf, OrOf}
-use Rattle.pbs_expand.specs.Written.{joined, both, empty_term}
+use Rattle.pbs_expand.specs.Written.{joined, both}
 use Rattle.pbs_expand.specs.inner.WrittenTerms.{IsJoined, IsWritten, weight}
-
-pub one_joined : (by : Connective) (t : terms.Term) → IsJoined by (term_of t ∷ []) t
-one_joined by t = record { joins = one by t }
-  where
-    one : (by : Connective) (t : terms.Term) (room : ℕ) → 1 ≤ room → term_of t ≡ joined room by (term_of t ∷ [])
-    one by t zero fits = absurd (omega (arith, fits))
-    one by t (suc room) fits = refl
-
-pub none_joined : (by : Connective) (t : terms.Term) → term_of t ≡ empty_term by → IsJoined by [] t
-none_joined by t is = record { joins = none by t is }
-  where
-    none : (by : Connective) (t : terms.Term) → term_of t ≡ empty_term by → (room : ℕ) → 0 ≤ room
-        → term_of t ≡ joined room by []
-    none by t is zero fits = is
-    none by t is (suc room) fits = is
 
 length_take : {X : Type 0} (xs : List X) (n : ℕ) → n ≤ length xs → length (take n xs) ≡ n
 length_take xs n fits = length-take-le n xs fits
@@ -79,27 +65,6 @@ joined_nodes (suc room) by (a ∷ b ∷ ts) some fits =
       weight_split
           all h,
     )
-
-pub ok_then : {X E : Type 0} {P Q : X → Type 0} (r : Result X E) → IfOk r P → ((x : X) → P x → Q x) → IfOk r Q
-ok_then (Ok x) p step = step x p
-ok_then (Err e) p step = tt
-
-pub single_joined : (by : Connective) (xs rest : List terms.Term) (t : terms.Term) → length xs ≤ 1
-    → xs ≡ rest ++ t ∷ [] → IsJoined by (map term_of xs) t
-single_joined by [] [] t few is = cc
-single_joined by [] (y ∷ rest) t few is = cc
-single_joined by (x ∷ []) [] t few is =
-    let same : x ≡ t = cc in let P : terms.Term → Type 0 = λ z. IsJoined by (term_of z ∷ []) t in subst P (sym same)
-    (one_joined by t)
-single_joined by (x ∷ []) (y ∷ rest) t few is =
-    let short : length rest + 1 ≡ 0 = omega (arith, ap length is, length-append rest (t ∷ [])) in absurd
-    (omega (arith, short))
-single_joined by (x ∷ y ∷ xs) rest t few is = absurd (omega (arith, few))
-
-pub empty_joined : (by : Connective) (xs : List terms.Term) (t : terms.Term) → length xs ≡ 0
-    → term_of t ≡ empty_term by → IsJoined by (map term_of xs) t
-empty_joined by [] t none is = none_joined by t is
-empty_joined by (x ∷ xs) t none is = absurd (omega (arith, none))
 
 pub both_joined : (by : Connective) (xs left right : List terms.Term) (n h : ℕ) (t u : terms.Term)
     (r : Result terms.Term Memory) → n ≡ length xs → 2 ≤ n → h ≡ n - n / 2 → left ≡ take h xs → right ≡ drop h xs

@@ -1,3 +1,5 @@
+pub mod BareParts
+pub mod BareTerms
 pub mod Counted
 pub mod Growing
 pub mod Joins
@@ -10,6 +12,7 @@ pub mod PartWords
 pub mod ProperTrees
 pub mod Repetitions
 pub mod Rows
+pub mod SameWalks
 pub mod Strips
 pub mod TermRows
 pub mod VisitLaws

@@ -1,5 +1,6 @@
 -- What the limits say of the numbered tree.
-use Rattle.std.proofs.Common.{◌≡◌, ◌≤◌, ℕ, ◌+◌, Bool, true, false, ◌&&◌, ◌++◌, refl, sym, ap, ◌∙◌, arith, nat_eq}
+use Rattle.std.proofs.Common.{◌≡◌, ◌≤◌, ℕ, ◌+◌, Bool, true, ◌&&◌, ◌++◌, refl, sym, ap, ◌∙◌, arith, nat_eq}
+use Rattle.std.proofs.lemmas.Bool.{and_parts, and_from}
 use Rattle.pbs_ast.specs.Trees.{Tree}
 use Rattle.pbs_ast.specs.Sound.{node_count, visit_count, place_count, scope_count, places_from, scopes_from, nodes_from}
 use Rattle.pbs_expand.specs.declared.parts.Pairing.TheVariants.{Sequence, Choice}
@@ -8,14 +9,6 @@ use Rattle.pbs_expand.specs.Counting.{sum_of, name_cost, node_cost, hold_cost, s
 use Rattle.pbs_expand.specs.Walks.{Walk, Beyond, Empty, Terminal, Action, Name, Star, Hold, Pair, Scope, complete}
 use Rattle.pbs_expand.specs.Visits.{visits, after_visits, numbered}
 use Rattle.pbs_expand.proofs.VisitLaws.{after_visits-append}
-
-pub both_true : (a b : Bool) → (a && b) ≡ true → (a ≡ true) × (b ≡ true)
-both_true true b h = (refl, h)
-both_true false b h = cc
-
-pub true_both : (a b : Bool) → a ≡ true → b ≡ true → (a && b) ≡ true
-true_both true b p q = q
-true_both false b p q = cc
 
 -- what a walk adds to each counter
 pub record Adds (w : Walk) (c : Counters) : Type 0 where
@@ -78,8 +71,8 @@ adds (Hold span b w) c whole =
     }
 adds (Pair span Sequence v w) c whole =
     let d = sum_of c node_cost in let e = after_visits d (visits v) in
-    let a = adds v d (both_true (complete v) (complete w) whole).0 in
-    let b = adds w e (both_true (complete v) (complete w) whole).1 in
+    let a = adds v d (and_parts (complete v) (complete w) whole).0 in
+    let b = adds w e (and_parts (complete v) (complete w) whole).1 in
     let end = ends v w d in
     record {
       counts = omega (arith, a.counts, b.counts, ap (λ x. x.counts) end);
@@ -89,8 +82,8 @@ adds (Pair span Sequence v w) c whole =
     }
 adds (Pair span Choice v w) c whole =
     let d = sum_of c node_cost in let e = after_visits d (visits v) in
-    let a = adds v d (both_true (complete v) (complete w) whole).0 in
-    let b = adds w e (both_true (complete v) (complete w) whole).1 in
+    let a = adds v d (and_parts (complete v) (complete w) whole).0 in
+    let b = adds w e (and_parts (complete v) (complete w) whole).1 in
     let end = ends v w d in
     record {
       counts = omega (arith, a.counts, b.counts, ap (λ x. x.counts) end);
@@ -100,8 +93,8 @@ adds (Pair span Choice v w) c whole =
     }
 adds (Scope span v w x) c whole =
     let d = sum_of c scope_cost in let e = after_visits d (visits v) in let f = after_visits e (visits w) in
-    let parts = both_true (complete v) (complete w && complete x) whole in
-    let rest = both_true (complete w) (complete x) parts.1 in
+    let parts = and_parts (complete v) (complete w && complete x) whole in
+    let rest = and_parts (complete w) (complete x) parts.1 in
     let a = adds v d parts.0 in
     let b = adds w e rest.0 in
     let g = adds x f rest.1 in
@@ -147,7 +140,7 @@ in_order (Star span w) c whole =
     let t = numbered w (sum_of c node_cost) in
     let a = in_order w (sum_of c node_cost) whole in
     record {
-      nodes = true_both (nat_eq c.nodes c.nodes) (nodes_from t (c.nodes + 1)) (same_number c.nodes) a.nodes;
+      nodes = and_from (nat_eq c.nodes c.nodes) (nodes_from t (c.nodes + 1)) (same_number c.nodes) a.nodes;
       places = moved (places_from t) (c.places + 0) c.places a.places (omega arith);
       scopes = moved (scopes_from t) (c.scopes + 0) c.scopes a.scopes (omega arith);
     }
@@ -155,55 +148,55 @@ in_order (Hold span b w) c whole =
     let t = numbered w (sum_of c (hold_cost b)) in
     let a = in_order w (sum_of c (hold_cost b)) whole in
     record {
-      nodes = true_both (nat_eq c.nodes c.nodes) (nodes_from t (c.nodes + 1)) (same_number c.nodes) a.nodes;
+      nodes = and_from (nat_eq c.nodes c.nodes) (nodes_from t (c.nodes + 1)) (same_number c.nodes) a.nodes;
       places = moved (places_from t) (c.places + 0) c.places a.places (omega arith);
       scopes = moved (scopes_from t) (c.scopes + 0) c.scopes a.scopes (omega arith);
     }
 in_order (Pair span Sequence v w) c whole =
     let d = sum_of c node_cost in let e = after_visits d (visits v) in
-    let parts = both_true (complete v) (complete w) whole in
+    let parts = and_parts (complete v) (complete w) whole in
     let t = numbered v d in let u = numbered w e in
     let a = in_order v d parts.0 in let b = in_order w e parts.1 in let n = adds v d parts.0 in
     record {
-      nodes = true_both _ _ (same_number c.nodes) (true_both _ _ a.nodes
+      nodes = and_from _ _ (same_number c.nodes) (and_from _ _ a.nodes
           (moved (nodes_from u) e.nodes (c.nodes + 1 + visit_count t) b.nodes n.nodes));
-      places = true_both _ _ (moved (places_from t) (c.places + 0) c.places a.places (omega arith))
+      places = and_from _ _ (moved (places_from t) (c.places + 0) c.places a.places (omega arith))
           (moved (places_from u) e.places (c.places + place_count t) b.places (omega (arith, n.places)));
-      scopes = true_both _ _ (moved (scopes_from t) (c.scopes + 0) c.scopes a.scopes (omega arith))
+      scopes = and_from _ _ (moved (scopes_from t) (c.scopes + 0) c.scopes a.scopes (omega arith))
           (moved (scopes_from u) e.scopes (c.scopes + scope_count t) b.scopes (omega (arith, n.scopes)));
     }
 in_order (Pair span Choice v w) c whole =
     let d = sum_of c node_cost in let e = after_visits d (visits v) in
-    let parts = both_true (complete v) (complete w) whole in
+    let parts = and_parts (complete v) (complete w) whole in
     let t = numbered v d in let u = numbered w e in
     let a = in_order v d parts.0 in let b = in_order w e parts.1 in let n = adds v d parts.0 in
     record {
-      nodes = true_both _ _ (same_number c.nodes) (true_both _ _ a.nodes
+      nodes = and_from _ _ (same_number c.nodes) (and_from _ _ a.nodes
           (moved (nodes_from u) e.nodes (c.nodes + 1 + visit_count t) b.nodes n.nodes));
-      places = true_both _ _ (moved (places_from t) (c.places + 0) c.places a.places (omega arith))
+      places = and_from _ _ (moved (places_from t) (c.places + 0) c.places a.places (omega arith))
           (moved (places_from u) e.places (c.places + place_count t) b.places (omega (arith, n.places)));
-      scopes = true_both _ _ (moved (scopes_from t) (c.scopes + 0) c.scopes a.scopes (omega arith))
+      scopes = and_from _ _ (moved (scopes_from t) (c.scopes + 0) c.scopes a.scopes (omega arith))
           (moved (scopes_from u) e.scopes (c.scopes + scope_count t) b.scopes (omega (arith, n.scopes)));
     }
 in_order (Scope span v w x) c whole =
     let d = sum_of c scope_cost in let e = after_visits d (visits v) in let f = after_visits e (visits w) in
-    let parts = both_true (complete v) (complete w && complete x) whole in
-    let rest = both_true (complete w) (complete x) parts.1 in
+    let parts = and_parts (complete v) (complete w && complete x) whole in
+    let rest = and_parts (complete w) (complete x) parts.1 in
     let t = numbered v d in let u = numbered w e in let y = numbered x f in
     let a = in_order v d parts.0 in let b = in_order w e rest.0 in let g = in_order x f rest.1 in
     let n = adds v d parts.0 in let m = adds w e rest.0 in
     record {
-      nodes = true_both _ _ (same_number c.nodes) (true_both _ _ a.nodes
-          (true_both _ _ (moved (nodes_from u) e.nodes (c.nodes + 1 + visit_count t) b.nodes n.nodes)
+      nodes = and_from _ _ (same_number c.nodes) (and_from _ _ a.nodes
+          (and_from _ _ (moved (nodes_from u) e.nodes (c.nodes + 1 + visit_count t) b.nodes n.nodes)
           (moved (nodes_from y) f.nodes (c.nodes + 1 + visit_count t + visit_count u) g.nodes
           (omega (arith, n.nodes, m.nodes)))));
-      places = true_both _ _ (moved (places_from t) (c.places + 0) c.places a.places (omega arith))
-          (true_both _ _ (moved (places_from u) e.places (c.places + place_count t) b.places (omega (arith, n.places)))
+      places = and_from _ _ (moved (places_from t) (c.places + 0) c.places a.places (omega arith))
+          (and_from _ _ (moved (places_from u) e.places (c.places + place_count t) b.places (omega (arith, n.places)))
           (moved (places_from y) f.places (c.places + place_count t + place_count u) g.places
           (omega (arith, n.places, m.places))));
-      scopes = true_both _ _ (same_number c.scopes)
-          (true_both _ _ (moved (scopes_from t) (c.scopes + 1) (1 + c.scopes) a.scopes (omega arith))
-          (true_both _ _ (moved (scopes_from u) e.scopes (1 + c.scopes + scope_count t) b.scopes
+      scopes = and_from _ _ (same_number c.scopes)
+          (and_from _ _ (moved (scopes_from t) (c.scopes + 1) (1 + c.scopes) a.scopes (omega arith))
+          (and_from _ _ (moved (scopes_from u) e.scopes (1 + c.scopes + scope_count t) b.scopes
           (omega (arith, n.scopes)))
           (moved (scopes_from y) f.scopes (1 + c.scopes + scope_count t + scope_count u) g.scopes
           (omega (arith, n.scopes, m.scopes)))));

@@ -8,7 +8,7 @@ use Rattle.pbs_ast.specs.declared.syntax.Decl.{Decl}
 use Rattle.pbs_ast.specs.declared.syntax.Spec.{Spec}
 use Rattle.pbs_expand.specs.Ready.{NamesDeclared}
 use Rattle.pbs_expand.specs.declared.build.Counters.{Counters}
-use Rattle.pbs_rules.specs.Naming.{input_names}
+use Rattle.pbs_names.specs.Naming.{input_names}
 use Rattle.pbs_expand.specs.inner.Outcomes.{IsWithin}
 use Rattle.pbs_expand.specs.Parts.{Whole}
 use Rattle.pbs_expand.specs.inner.Outcomes.{Grown, Over, outcome}

@@ -5,15 +5,16 @@ use Rattle.std.specs.Prelude.{Contains, if◌then◌else◌}
 use Rattle.std.proofs.lemmas.Bool.Decides.{nat_tests}
 use Rattle.std.proofs.lemmas.List.Elements.{Contains-append_cases, Contains-append_left, Contains-append_right}
 use Rattle.std.proofs.lemmas.List.{take-append-drop}
+use Rattle.pbs_ast.proofs.Items.{first_item, no_item}
 use Rattle.pbs_base.specs.declared.refusal.Span.{Span}
 use Rattle.pbs_ast.specs.declared.syntax.Expr.{Expr}
 use Rattle.pbs_ast.specs.declared.syntax.Prod.{Prod}
-use Rattle.pbs_rules.specs.Naming.{body_of}
-use Rattle.pbs_rules.specs.Forms as forms
-use Rattle.pbs_rules.specs.Forms.{Form, form, parts, Stands, OfMain, OfProd, OfPart}
-use Rattle.pbs_rules.specs.Reach.{Itself, InPart, InProd}
-use Rattle.pbs_rules.specs.Reach.{MayBeEmpty, EmptyMay, ActionMay, AllMay, SomeMay, NoneMay, StarMay, PlusMay, OptMay}
-use Rattle.pbs_rules.specs.Reach.{HoldMay, ScopeMay, NameMay, UnknownMay, NoCopyMay, CopiesMay}
+use Rattle.pbs_names.specs.Naming.{body_of}
+use Rattle.pbs_names.specs.Forms as forms
+use Rattle.pbs_names.specs.Forms.{Form, form, parts}
+use Rattle.pbs_names.specs.Reach.{Itself, InPart, InProd, MayBeEmpty, EmptyMay, ActionMay, AllMay, SomeMay, NoneMay}
+use Rattle.pbs_names.specs.Reach.{StarMay, PlusMay, OptMay, HoldMay, ScopeMay, NameMay, UnknownMay, NoCopyMay}
+use Rattle.pbs_names.specs.Reach.{CopiesMay}
 use Rattle.pbs_expand.specs.declared.parts.Pairing.{Pairing}
 use Rattle.pbs_expand.specs.declared.parts.Pairing.TheVariants.{Sequence, Choice}
 use Rattle.pbs_expand.specs.Parts.{Part, Whole, Run, Nothing, Starred, Copies, UpTo, Further, Pair, shape, form_shape}
@@ -26,15 +27,6 @@ use Rattle.pbs_expand.proofs.Strips.{IsOnly, Same, OfSeq, OfChoice, OfOne, only}
 pub only_item : {X : Type 0} (x y : X) → Contains (x ∷ []) y → x ≡ y
 only_item x y (zero, below, is) = is
 only_item x y (suc k, below, is) = absurd (omega (arith, below))
-
-pub first_item : {X : Type 0} (x : X) (xs : List X) → Contains (x ∷ xs) x
-first_item x xs = (zero, omega arith, refl)
-
-pub later_item : {X : Type 0} (x y : X) (xs : List X) → Contains xs y → Contains (x ∷ xs) y
-later_item x y xs (k, below, is) = (suc k, omega (arith, below), is)
-
-pub no_item : {X : Type 0} (y : X) → Contains [] y → ⊥
-no_item y (k, below, is) = omega (arith, below)
 
 -- an item stands in one of the halves
 pub in_half : (h : ℕ) (items : List Expr) (e : Expr) → Contains items e
@@ -56,7 +48,7 @@ from_right h items e here =
 -- ---- what may be empty
 may_run_all : (prods : List Prod) (items : List Expr) → PartMay prods (run_part Sequence items) → (e : Expr)
     → Contains items e → MayBeEmpty prods (form e)
-may_run_all prods [] may e here = absurd (no_item e here)
+may_run_all prods [] may e here = absurd (no_item here)
 may_run_all prods (x ∷ []) may e here = let P : Expr
     → Type 0 = λ z. MayBeEmpty prods (form z) in subst P (only_item x e here) may
 may_run_all prods (x ∷ y ∷ items) may e here = may e here
@@ -108,7 +100,7 @@ may_form : (prods : List Prod) (span : Span) (f : Form) → ShapeMay prods (form
 may_form prods span forms.Empty may = EmptyMay
 may_form prods span (forms.Terminal t) may = absurd may
 may_form prods span (forms.Action name at) may = ActionMay
-may_form prods span (forms.Seq []) may = AllMay (λ e here. absurd (no_item e here))
+may_form prods span (forms.Seq []) may = AllMay (λ e here. absurd (no_item here))
 may_form prods span (forms.Seq (x ∷ items)) may = AllMay (may_halves_all prods span (x ∷ items) may)
 may_form prods span (forms.Choice []) may = NoneMay
 may_form prods span (forms.Choice (x ∷ items)) may = let some = may_halves_some prods span (x ∷ items) may in SomeMay

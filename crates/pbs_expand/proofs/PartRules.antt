@@ -3,15 +3,16 @@ use Rattle.std.proofs.Common.{◌≡◌, ℕ, zero, suc, ◌+◌, ◌-◌, ◌/�
 use Rattle.std.proofs.Common.{List, [], ◌∷◌, length, take, drop, nat_eq, nat_le, refl, sym, ap, subst, arith}
 use Rattle.std.specs.Prelude.{Contains, if◌then◌else◌, ◌==◌}
 use Rattle.std.specs.Cmp.Lexicographic.{pointwise}
+use Rattle.pbs_ast.proofs.Items.{first_item, later_item, no_item}
 use Rattle.pbs_base.specs.declared.refusal.Span.{Span}
 use Rattle.pbs_ast.specs.declared.syntax.Expr.{Expr}
 use Rattle.pbs_ast.specs.declared.syntax.Prod.{Prod}
 use Rattle.pbs_ast.specs.declared.syntax.Spec.{Spec}
-use Rattle.pbs_rules.specs.Naming.{body_of}
-use Rattle.pbs_rules.specs.Forms as forms
-use Rattle.pbs_rules.specs.Forms.{Form, form, parts, Stands, OfMain, OfProd, OfPart}
-use Rattle.pbs_rules.specs.Moving.{EmptyStar, EmptyPlus, EmptyTrap, ActionInTrap, ScopeInTrap, NoTerminal}
-use Rattle.pbs_rules.specs.Reach.{Itself, InPart, InProd, HasTerminal}
+use Rattle.pbs_names.specs.Naming.{body_of}
+use Rattle.pbs_names.specs.Forms as forms
+use Rattle.pbs_names.specs.Forms.{Form, form, parts, Stands, OfProd, OfPart}
+use Rattle.pbs_names.specs.StarsAndScopes.{EmptyStar, EmptyPlus, EmptyTrap, ActionInTrap, ScopeInTrap, NoTerminal}
+use Rattle.pbs_names.specs.Reach.{Itself, InPart, InProd, HasTerminal}
 use Rattle.pbs_expand.specs.declared.parts.Pairing.{Pairing}
 use Rattle.pbs_expand.specs.declared.parts.Pairing.TheVariants.{Sequence, Choice}
 use Rattle.pbs_expand.specs.Parts.{Part, Whole, Run, Nothing, Starred, Copies, UpTo, Further, Pair, shape, form_shape}
@@ -19,13 +20,13 @@ use Rattle.pbs_expand.specs.Parts.{named_shape, halves, run_part, run_span, copi
 use Rattle.pbs_expand.specs.Parts.{stripped}
 use Rattle.pbs_expand.specs.Ready.{IsReady}
 use Rattle.pbs_expand.proofs.PartWords.{PartHas, ShapeHas, PartStands, ShapeIsRight}
-use Rattle.pbs_expand.proofs.PartForms.{only_item, first_item, later_item, no_item, in_half, from_left, from_right}
+use Rattle.pbs_expand.proofs.PartForms.{only_item, in_half, from_left, from_right}
 use Rattle.pbs_expand.proofs.Strips.{IsOnly, Same, OfSeq, OfChoice, OfOne, only}
 
 -- ---- terminals
 has_run : (prods : List Prod) (by : Pairing) (items : List Expr) (e : Expr) → Contains items e
     → HasTerminal prods (form e) → PartHas prods (run_part by items)
-has_run prods by [] e here has = absurd (no_item e here)
+has_run prods by [] e here has = absurd (no_item here)
 has_run prods by (x ∷ []) e here has = let P : Expr
     → Type 0 = λ z. HasTerminal prods (form z) in subst P (sym (only_item x e here)) has
 has_run prods by (x ∷ y ∷ items) e here has = (e, here, has)
@@ -68,12 +69,12 @@ has_repeat prods span e m n false false has = inr has
 -- a part that has a terminal gives one to the node
 has_by : (prods : List Prod) (span : Span) (f : Form) (e : Expr) → Contains (parts f) e → HasTerminal prods (form e)
     → ShapeHas prods (form_shape prods span f)
-has_by prods span forms.Empty e here has = absurd (no_item e here)
+has_by prods span forms.Empty e here has = absurd (no_item here)
 has_by prods span (forms.Terminal t) e here has = tt
-has_by prods span (forms.Action name at) e here has = absurd (no_item e here)
-has_by prods span (forms.Seq []) e here has = absurd (no_item e here)
+has_by prods span (forms.Action name at) e here has = absurd (no_item here)
+has_by prods span (forms.Seq []) e here has = absurd (no_item here)
 has_by prods span (forms.Seq (x ∷ items)) e here has = has_halves prods span Sequence (x ∷ items) e here has
-has_by prods span (forms.Choice []) e here has = absurd (no_item e here)
+has_by prods span (forms.Choice []) e here has = absurd (no_item here)
 has_by prods span (forms.Choice (x ∷ items)) e here has = has_halves prods span Choice (x ∷ items) e here has
 has_by prods span (forms.Star x) e here has = let P : Expr
     → Type 0 = λ z. HasTerminal prods (form z) in subst P (sym (only_item x e here)) has
@@ -96,7 +97,7 @@ has_by prods span (forms.Scope b x h) e here has =
 
     moved : (x y : Expr) → x ≡ y → HasTerminal prods (form y) → HasTerminal prods (form x)
     moved x y same has = let P : Expr → Type 0 = λ z. HasTerminal prods (form z) in subst P (sym same) has
-has_by prods span (forms.Name name) e here has = absurd (no_item e here)
+has_by prods span (forms.Name name) e here has = absurd (no_item here)
 has_by prods span (forms.Repeat x m n) e here has =
     let P : Expr → Type 0 = λ z. HasTerminal prods (form z) in has_repeat prods span x m n (nat_eq m n) (nat_eq m 0)
     (subst P (sym (only_item x e here)) has)
@@ -185,7 +186,7 @@ body_stands (p ∷ ps) name e is = stands (pointwise ◌==◌ p.name name) (body
     stands : (b : Bool) → (body_of ps name ≡ Some e → (q : Prod) × Contains ps q × (q.body ≡ e))
         → (if b then Some p.body else body_of ps name) ≡ Some e → (q : Prod) × Contains (p ∷ ps) q × (q.body ≡ e)
     stands true later here = (p, first_item p ps, cc)
-    stands false later here = let q = later here in (q.0, later_item p q.0 ps q.1, q.2)
+    stands false later here = let q = later here in (q.0, later_item p ps q.1, q.2)
 
 stands_named : (spec : Spec) (span : Span) (name : List ℕ) (o : Option Expr) → body_of spec.prods name ≡ o
     → ShapeIsRight spec (named_shape span o)
@@ -210,8 +211,8 @@ right_form spec ready e (forms.Opt x) is stands all = (all x (first_item x []), 
 right_form spec ready e (forms.Hold t x) is stands all = all x (first_item x [])
 right_form spec ready e (forms.Scope b x h) is stands all = record {
   body = all b (first_item b (x ∷ h ∷ []));
-  trap = all x (later_item b x (x ∷ h ∷ []) (first_item x (h ∷ [])));
-  after = all h (later_item b h (x ∷ h ∷ []) (later_item x h (h ∷ []) (first_item h [])));
+  trap = all x (later_item b (x ∷ h ∷ []) (first_item x (h ∷ [])));
+  after = all h (later_item b (x ∷ h ∷ []) (later_item x (h ∷ []) (first_item h [])));
   has = λ no. ready.rule_10 e.span (NoTerminal stands is no);
   moves = λ may. ready.rule_10 e.span (EmptyTrap stands is may);
   plain = λ busy. elim busy [

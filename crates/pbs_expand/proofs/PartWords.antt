@@ -4,8 +4,8 @@ use Rattle.std.specs.Prelude.{Contains}
 use Rattle.pbs_ast.specs.declared.syntax.Expr.{Expr}
 use Rattle.pbs_ast.specs.declared.syntax.Prod.{Prod}
 use Rattle.pbs_ast.specs.declared.syntax.Spec.{Spec}
-use Rattle.pbs_rules.specs.Forms.{Form, form, Stands}
-use Rattle.pbs_rules.specs.Reach.{MayBeEmpty, HasTerminal, HasAction, HasScope}
+use Rattle.pbs_names.specs.Forms.{Form, form, Stands}
+use Rattle.pbs_names.specs.Reach.{MayBeEmpty, HasTerminal, HasAction, HasScope}
 use Rattle.pbs_expand.specs.declared.parts.Pairing.TheVariants.{Sequence, Choice}
 use Rattle.pbs_expand.specs.Parts.{Part, Whole, Run, Nothing, Starred, Copies, UpTo, Further, Shape, Empty, Terminal}
 use Rattle.pbs_expand.specs.Parts.{Action, Name, Star, Hold, Pair, Scope}

@@ -1,11 +1,12 @@
 -- Rules 9 and 10 hold of the tree where they hold of the specification.
 use Rattle.std.proofs.Common.{◌≡◌, ℕ, zero, suc, Bool, true, false, not, ◌&&◌, ◌||◌, ◌⊎◌, inl, inr, Option, Some, None}
 use Rattle.std.proofs.Common.{refl}
+use Rattle.std.proofs.lemmas.Bool.{and_parts, and_from, or_left, or_right}
 use Rattle.pbs_base.specs.declared.refusal.Span.{Span}
 use Rattle.pbs_ast.specs.Trees.{Tree, nullable, has_terminal, is_plain}
 use Rattle.pbs_ast.specs.Sound.{IsProper, stars_move, scopes_right}
 use Rattle.pbs_ast.specs.declared.syntax.Spec.{Spec}
-use Rattle.pbs_rules.specs.Naming.{index_of, action_names}
+use Rattle.pbs_names.specs.Naming.{index_of, action_names}
 use Rattle.pbs_expand.specs.declared.parts.Pairing.{Pairing}
 use Rattle.pbs_expand.specs.declared.parts.Pairing.TheVariants.{Sequence, Choice}
 use Rattle.pbs_expand.specs.declared.build.Counters.{Counters}
@@ -16,12 +17,11 @@ use Rattle.pbs_expand.specs.Written.{written}
 use Rattle.pbs_expand.specs.Visits.{visits, after_visits, numbered}
 use Rattle.pbs_expand.specs.Expanded.{nothing_yet, main_walk, expanded, over_limit}
 use Rattle.pbs_expand.specs.Ready.{IsReady}
-use Rattle.pbs_rules.specs.Forms.{OfMain}
+use Rattle.pbs_names.specs.Forms.{OfMain}
 use Rattle.pbs_expand.proofs.PartWords.{PartMay, ShapeMay, PartBusy, ShapeBusy, PartHas, ShapeHas, PartStands}
 use Rattle.pbs_expand.proofs.PartWords.{ShapeIsRight}
 use Rattle.pbs_expand.proofs.PartForms.{may_part, busy_part}
 use Rattle.pbs_expand.proofs.PartRules.{has_part, right_part}
-use Rattle.pbs_expand.proofs.Limits.{both_true, true_both}
 use Rattle.pbs_expand.proofs.Counted.{none_over}
 
 either_true : (a b : Bool) → (a || b) ≡ true → (a ≡ true) ⊎ (b ≡ true)
@@ -31,14 +31,6 @@ either_true false b h = inr h
 either_false : (a b : Bool) → (a && b) ≡ false → (a ≡ false) ⊎ (b ≡ false)
 either_false true b h = inr h
 either_false false b h = inl refl
-
-true_left : (a b : Bool) → a ≡ true → (a || b) ≡ true
-true_left true b h = refl
-true_left false b h = cc
-
-true_right : (a b : Bool) → b ≡ true → (a || b) ≡ true
-true_right true b h = refl
-true_right false b h = h
 
 not_true : (b : Bool) → (b ≡ true → ⊥) → not b ≡ true
 not_true true h = absurd (h refl)
@@ -64,17 +56,17 @@ empty_node spec w part (Name span p) c whole h = part p (sum_of c name_cost) who
 empty_node spec w part (Star span p) c whole h = tt
 empty_node spec w part (Hold span t p) c whole h = part p (sum_of c (hold_cost (written spec.inputs t))) whole h
 empty_node spec w part (Pair span Sequence p q) c whole h =
-    let d = sum_of c node_cost in let e = after_visits d (visits (w p)) in let all = both_true (complete (w p))
+    let d = sum_of c node_cost in let e = after_visits d (visits (w p)) in let all = and_parts (complete (w p))
     (complete (w q)) whole in
-    let two = both_true (nullable (numbered (w p) d)) (nullable (numbered (w q) e)) h in
+    let two = and_parts (nullable (numbered (w p) d)) (nullable (numbered (w q) e)) h in
     (part p d all.0 two.0, part q e all.1 two.1)
 empty_node spec w part (Pair span Choice p q) c whole h =
-    let d = sum_of c node_cost in let e = after_visits d (visits (w p)) in let all = both_true (complete (w p))
+    let d = sum_of c node_cost in let e = after_visits d (visits (w p)) in let all = and_parts (complete (w p))
     (complete (w q)) whole in
     elim (either_true (nullable (numbered (w p) d)) (nullable (numbered (w q) e)) h)
     [ inl l ↦ inl (part p d all.0 l) | inr r ↦ inr (part q e all.1 r) ]
 empty_node spec w part (Scope span p q r) c whole h =
-    part p (sum_of c scope_cost) (both_true (complete (w p)) (complete (w q) && complete (w r)) whole).0 h
+    part p (sum_of c scope_cost) (and_parts (complete (w p)) (complete (w q) && complete (w r)) whole).0 h
 
 may_be_empty : (spec : Spec) (room : ℕ) (p : Part) (c : Counters) → complete (walk spec room p) ≡ true
     → nullable (numbered (walk spec room p) c) ≡ true → PartMay spec.prods p
@@ -95,12 +87,12 @@ busy_node spec w part (Name span p) c whole h = part p (sum_of c name_cost) whol
 busy_node spec w part (Star span p) c whole h = part p (sum_of c node_cost) whole h
 busy_node spec w part (Hold span t p) c whole h = part p (sum_of c (hold_cost (written spec.inputs t))) whole h
 busy_node spec w part (Pair span Sequence p q) c whole h =
-    let d = sum_of c node_cost in let e = after_visits d (visits (w p)) in let all = both_true (complete (w p))
+    let d = sum_of c node_cost in let e = after_visits d (visits (w p)) in let all = and_parts (complete (w p))
     (complete (w q)) whole in
     elim (either_false (is_plain (numbered (w p) d)) (is_plain (numbered (w q) e)) h)
     [ inl l ↦ inl (part p d all.0 l) | inr r ↦ inr (part q e all.1 r) ]
 busy_node spec w part (Pair span Choice p q) c whole h =
-    let d = sum_of c node_cost in let e = after_visits d (visits (w p)) in let all = both_true (complete (w p))
+    let d = sum_of c node_cost in let e = after_visits d (visits (w p)) in let all = and_parts (complete (w p))
     (complete (w q)) whole in
     elim (either_false (is_plain (numbered (w p) d)) (is_plain (numbered (w q) e)) h)
     [ inl l ↦ inl (part p d all.0 l) | inr r ↦ inr (part q e all.1 r) ]
@@ -118,10 +110,10 @@ terminal_pair : (spec : Spec) (w : Part → Walk) (span : Span) (by : Pairing) (
     → ((has_terminal (numbered (w p) (sum_of c node_cost)) ≡ true) ⊎
     (has_terminal (numbered (w q) (after_visits (sum_of c node_cost) (visits (w p)))) ≡ true))
     → has_terminal (numbered (walked spec w (Pair span by p q)) c) ≡ true
-terminal_pair spec w span Sequence p q c (inl h) = true_left _ _ h
-terminal_pair spec w span Sequence p q c (inr h) = true_right _ _ h
-terminal_pair spec w span Choice p q c (inl h) = true_left _ _ h
-terminal_pair spec w span Choice p q c (inr h) = true_right _ _ h
+terminal_pair spec w span Sequence p q c (inl h) = or_left _ _ h
+terminal_pair spec w span Sequence p q c (inr h) = or_right _ _ h
+terminal_pair spec w span Choice p q c (inl h) = or_left _ _ h
+terminal_pair spec w span Choice p q c (inr h) = or_right _ _ h
 
 terminal_node : (spec : Spec) (w : Part → Walk) → ((p : Part) (c : Counters) → complete (w p) ≡ true → PartHas
     spec.prods p → has_terminal (numbered (w p) c) ≡ true)
@@ -134,24 +126,24 @@ terminal_node spec w part (Name span p) c whole h = part p (sum_of c name_cost) 
 terminal_node spec w part (Star span p) c whole h = part p (sum_of c node_cost) whole h
 terminal_node spec w part (Hold span t p) c whole h = part p (sum_of c (hold_cost (written spec.inputs t))) whole h
 terminal_node spec w part (Pair span by p q) c whole (inl h) =
-    terminal_pair spec w span by p q c (inl (part p (sum_of c node_cost) (both_true (complete (w p)) (complete (w q))
+    terminal_pair spec w span by p q c (inl (part p (sum_of c node_cost) (and_parts (complete (w p)) (complete (w q))
     whole).0 h))
 terminal_node spec w part (Pair span by p q) c whole (inr h) =
-    terminal_pair spec w span by p q c (inr (part q (after_visits (sum_of c node_cost) (visits (w p))) (both_true
+    terminal_pair spec w span by p q c (inr (part q (after_visits (sum_of c node_cost) (visits (w p))) (and_parts
     (complete (w p)) (complete (w q)) whole).1 h))
 terminal_node spec w part (Scope span p q r) c whole (inl h) =
-    true_left _ _ (part p (sum_of c scope_cost) (both_true (complete (w p)) (complete (w q) && complete (w r))
+    or_left _ _ (part p (sum_of c scope_cost) (and_parts (complete (w p)) (complete (w q) && complete (w r))
     whole).0 h)
 terminal_node spec w part (Scope span p q r) c whole (inr (inl h)) =
-    let rest = both_true (complete (w q)) (complete (w r))
-    (both_true (complete (w p)) (complete (w q) && complete (w r)) whole).1 in
-    true_right (has_terminal (numbered (w p) (sum_of c scope_cost))) _
-    (true_left _ _ (part q (after_visits (sum_of c scope_cost) (visits (w p))) rest.0 h))
+    let rest = and_parts (complete (w q)) (complete (w r))
+    (and_parts (complete (w p)) (complete (w q) && complete (w r)) whole).1 in
+    or_right (has_terminal (numbered (w p) (sum_of c scope_cost))) _
+    (or_left _ _ (part q (after_visits (sum_of c scope_cost) (visits (w p))) rest.0 h))
 terminal_node spec w part (Scope span p q r) c whole (inr (inr h)) =
-    let rest = both_true (complete (w q)) (complete (w r))
-    (both_true (complete (w p)) (complete (w q) && complete (w r)) whole).1 in
-    true_right (has_terminal (numbered (w p) (sum_of c scope_cost))) _
-    (true_right (has_terminal (numbered (w q) (after_visits (sum_of c scope_cost) (visits (w p))))) _
+    let rest = and_parts (complete (w q)) (complete (w r))
+    (and_parts (complete (w p)) (complete (w q) && complete (w r)) whole).1 in
+    or_right (has_terminal (numbered (w p) (sum_of c scope_cost))) _
+    (or_right (has_terminal (numbered (w q) (after_visits (sum_of c scope_cost) (visits (w p))))) _
     (part r (after_visits (after_visits (sum_of c scope_cost) (visits (w p))) (visits (w q))) rest.1 h))
 
 terminal : (spec : Spec) (room : ℕ) (p : Part) (c : Counters) → complete (walk spec room p) ≡ true
@@ -175,13 +167,13 @@ fine_pair : (spec : Spec) (w : Part → Walk) (span : Span) (by : Pairing) (p q 
     → IsFine (numbered (w q) (after_visits (sum_of c node_cost) (visits (w p))))
     → IsFine (numbered (walked spec w (Pair span by p q)) c)
 fine_pair spec w span Sequence p q c a b = record {
-  stars = true_both _ _ a.stars b.stars;
-  scopes = true_both _ _
+  stars = and_from _ _ a.stars b.stars;
+  scopes = and_from _ _
       a.scopes b.scopes;
 }
 fine_pair spec w span Choice p q c a b = record {
-  stars = true_both _ _ a.stars b.stars;
-  scopes = true_both _ _
+  stars = and_from _ _ a.stars b.stars;
+  scopes = and_from _ _
       a.scopes b.scopes;
 }
 
@@ -198,28 +190,28 @@ fine_node spec room (Name span p) part right c whole = part p right (sum_of c na
 fine_node spec room (Star span p) part right c whole =
     let d = sum_of c node_cost in let inner = part p right.0 d whole in
     record {
-      stars = true_both _ _ (not_true _ (λ h. right.1 (may_be_empty spec room p d whole h))) inner.stars;
+      stars = and_from _ _ (not_true _ (λ h. right.1 (may_be_empty spec room p d whole h))) inner.stars;
       scopes = inner.scopes;
     }
 fine_node spec room (Hold span t p) part right c whole =
     let inner = part p right (sum_of c (hold_cost (written spec.inputs t))) whole in record
     { stars = inner.stars; scopes = inner.scopes }
 fine_node spec room (Pair span by p q) part right c whole =
-    let w = walk spec room in let d = sum_of c node_cost in let all = both_true (complete (w p)) (complete (w q))
+    let w = walk spec room in let d = sum_of c node_cost in let all = and_parts (complete (w p)) (complete (w q))
     whole in
     fine_pair spec w span by p q c (part p right.0 d all.0) (part q right.1 (after_visits d (visits (w p))) all.1)
 fine_node spec room (Scope span p q r) part right c whole =
     let w = walk spec room in let d = sum_of c scope_cost in let e = after_visits d (visits (w p)) in let f =
     after_visits e (visits (w q)) in
-    let all = both_true (complete (w p)) (complete (w q) && complete (w r)) whole in let rest = both_true
+    let all = and_parts (complete (w p)) (complete (w q) && complete (w r)) whole in let rest = and_parts
     (complete (w q)) (complete (w r)) all.1 in
     let a = part p right.body d all.0 in let b = part q right.trap e rest.0 in let g = part r right.after f rest.1 in
     record {
-      stars = true_both _ _ (true_both _ _ a.stars b.stars) g.stars;
-      scopes = true_both _ _ (true_twice _ (λ no. right.has (λ h. no (terminal spec room p d all.0 h))))
-          (true_both _ _ (not_true _ (λ h. right.moves (may_be_empty spec room q e rest.0 h)))
-          (true_both _ _ (true_unless _ (λ h. right.plain (busy spec room q e rest.0 h)))
-          (true_both _ _ a.scopes g.scopes)));
+      stars = and_from _ _ (and_from _ _ a.stars b.stars) g.stars;
+      scopes = and_from _ _ (true_twice _ (λ no. right.has (λ h. no (terminal spec room p d all.0 h))))
+          (and_from _ _ (not_true _ (λ h. right.moves (may_be_empty spec room q e rest.0 h)))
+          (and_from _ _ (true_unless _ (λ h. right.plain (busy spec room q e rest.0 h)))
+          (and_from _ _ a.scopes g.scopes)));
     }
 
 fine : (spec : Spec) → IsReady spec → (room : ℕ) (p : Part) → PartStands spec p → (c : Counters)

@@ -1,8 +1,8 @@
 -- The tree of a bounded repetition.
-use Rattle.std.proofs.Common.{◌≡◌, ◌≤◌, ℕ, zero, suc, ◌+◌, ◌-◌, ◌/◌, Bool, true, false, ◌&&◌}
-use Rattle.std.proofs.Common.{nat_eq, nat_le, refl, sym, ap, subst, ◌∙◌, arith}
+use Rattle.std.proofs.Common.{◌≡◌, ◌≤◌, ℕ, zero, suc, ◌+◌, ◌-◌, ◌/◌, Bool, true, false, ◌&&◌, nat_eq, nat_le, refl, sym}
+use Rattle.std.proofs.Common.{ap, subst, ◌∙◌, arith}
 use Rattle.std.specs.Prelude.{if◌then◌else◌}
-use Rattle.std.proofs.lemmas.Bool.{eqb-true}
+use Rattle.std.proofs.lemmas.Bool.{eqb-true, and_parts}
 use Rattle.std.proofs.lemmas.Bool.Decides.{nat_tests}
 use Rattle.pbs_base.specs.declared.refusal.Span.{Span}
 use Rattle.pbs_ast.specs.Trees as trees
@@ -11,19 +11,18 @@ use Rattle.pbs_ast.specs.Repeats.{Copies, Copy, InTurn, Either, copies_to, exact
 use Rattle.pbs_ast.specs.Repeats.{no_spot}
 use Rattle.pbs_ast.specs.declared.syntax.Expr.{Expr}
 use Rattle.pbs_ast.specs.declared.syntax.Spec.{Spec}
-use Rattle.pbs_rules.specs.Forms.{form, expr_of}
-use Rattle.pbs_rules.specs.Forms as forms
+use Rattle.pbs_names.specs.Forms.{form}
+use Rattle.pbs_names.specs.Forms as forms
 use Rattle.pbs_expand.specs.declared.parts.Pairing.TheVariants.{Sequence, Choice}
 use Rattle.pbs_expand.specs.declared.build.Counters.{Counters}
 use Rattle.pbs_expand.specs.Counting.{sum_of, name_cost, node_cost, hold_cost, scope_cost}
 use Rattle.pbs_expand.specs.Parts as parts
-use Rattle.pbs_expand.specs.Parts.{Part, Whole, Shape, shape}
-use Rattle.pbs_expand.specs.Parts.{copies_part, copies_shape, upto_shape, expr_shape, form_shape, stripped}
+use Rattle.pbs_expand.specs.Parts.{Part, Whole, Shape, shape, copies_part, copies_shape, upto_shape, expr_shape}
+use Rattle.pbs_expand.specs.Parts.{form_shape, stripped}
 use Rattle.pbs_expand.specs.Written.{written}
 use Rattle.pbs_expand.specs.Visits.{visits, after_visits, numbered}
-use Rattle.pbs_expand.specs.Walks.{Walk, Beyond, Empty, Terminal, Action, Name, Star, Hold, Pair, Scope}
-use Rattle.pbs_expand.specs.Walks.{walk, walked, complete}
-use Rattle.pbs_expand.proofs.Limits.{both_true}
+use Rattle.pbs_expand.specs.Walks.{Walk, Beyond, Empty, Terminal, Action, Name, Star, Hold, Pair, Scope, walk, walked}
+use Rattle.pbs_expand.specs.Walks.{complete}
 use Rattle.pbs_expand.proofs.Strips.{repeat_strips}
 
 -- ---- the counters decide numbers alone
@@ -62,11 +61,11 @@ same_walked spec f g same (parts.Star span p) whole = ap (Star span) (same p who
 same_walked spec f g same (parts.Hold span t p) whole =
     ap (Hold span (written spec.inputs t)) (same p whole)
 same_walked spec f g same (parts.Pair span by p q) whole =
-    let two = both_true (complete (f p)) (complete (f q)) whole in
+    let two = and_parts (complete (f p)) (complete (f q)) whole in
     let left = same p two.0 in let right = same q two.1 in cc
 same_walked spec f g same (parts.Scope span p q r) whole =
-    let two = both_true (complete (f p)) (complete (f q) && complete (f r)) whole in
-    let rest = both_true (complete (f q)) (complete (f r)) two.1 in
+    let two = and_parts (complete (f p)) (complete (f q) && complete (f r)) whole in
+    let rest = and_parts (complete (f q)) (complete (f r)) two.1 in
     let body = same p two.0 in let trap = same q rest.0 in let after = same r rest.1 in cc
 
 more_room : (spec : Spec) (room : ℕ) (p : Part) → complete (walk spec room p) ≡ true
@@ -136,7 +135,7 @@ pair_made spec body p span q r left right is first second zero whole = cc
 pair_made spec body p span q r left right is first second (suc room) whole =
     let v = walk spec room q in let w = walk spec room r in
     let node : walk spec (suc room) p ≡ Pair span Sequence v w = ap (walked spec (walk spec room)) is in
-    let two = both_true (complete v) (complete w) (ap complete (sym node) ∙ whole) in
+    let two = and_parts (complete v) (complete w) (ap complete (sym node) ∙ whole) in
     let a = first room two.0 in let b = second room two.1 in
     record {
       whole = whole_deeper spec body room a.whole;
@@ -154,7 +153,7 @@ choice_made spec body p span q some is made zero whole = cc
 choice_made spec body p span q some is made (suc room) whole =
     let v = walk spec room q in let w = walk spec room (parts.Nothing span) in
     let node : walk spec (suc room) p ≡ Pair span Choice v w = ap (walked spec (walk spec room)) is in
-    let two = both_true (complete v) (complete w) (ap complete (sym node) ∙ whole) in
+    let two = and_parts (complete v) (complete w) (ap complete (sym node) ∙ whole) in
     let a = made room two.0 in
     record {
       whole = whole_deeper spec body room a.whole;

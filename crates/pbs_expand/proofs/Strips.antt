@@ -7,7 +7,7 @@ use Rattle.pbs_base.specs.declared.refusal.Span.{Span}
 use Rattle.pbs_ast.specs.declared.syntax.Expr.{Expr}
 use Rattle.pbs_ast.specs.declared.syntax.Kind as kind
 use Rattle.pbs_ast.specs.declared.syntax.Kind.{Row_of-Expr, end_of-Expr, more_of-Expr, items-the_row-Expr}
-use Rattle.pbs_rules.specs.Forms.{Seq, Choice, Repeat, form, form_of, expr_of}
+use Rattle.pbs_names.specs.Forms.{Seq, Choice, Repeat, form, form_of, expr_of}
 use Rattle.pbs_expand.specs.Parts.{stripped, stripped_from, stripped_row}
 
 -- d is e, or is so for the one part of which e is made

@@ -12,8 +12,8 @@ use Rattle.pbs_expand.specs.declared.terms.Connective.{Connective}
 use Rattle.pbs_expand.specs.declared.terms.Connective.TheVariants.{AndOf, OrOf}
 use Rattle.pbs_expand.specs.declared.terms.Written.{Written}
 use Rattle.pbs_expand.specs.declared.terms.Many.{Many}
-use Rattle.pbs_rules.specs.Naming.{bus_of}
-use Rattle.pbs_rules.specs.declared.buses.Bus.{Bus}
+use Rattle.pbs_names.specs.Naming.{bus_of}
+use Rattle.pbs_names.specs.declared.buses.Bus.{Bus}
 use Rattle.pbs_expand.specs.Written.{joined, written, written_row, literals, equal_term}
 use Rattle.pbs_expand.specs.inner.WrittenTerms.{IsWritten, AreWritten, AreLiterals, weight}
 use Rattle.pbs_expand.proofs.Joins.{joined_nodes}
@@ -23,7 +23,7 @@ row_items : (inputs : List Decl) (n : _) (row : Row_of-SpecTerm n)
 row_items inputs n end_of-SpecTerm = refl
 row_items inputs n (more_of-SpecTerm t rest) = ap (λ ts. written inputs t ∷ ts) (row_items inputs _ rest)
 
-row_list : (inputs : List Decl) (items : List SpecTerm)
+pub row_list : (inputs : List Decl) (items : List SpecTerm)
     → written_row inputs (hidden-the_row-SpecTerm-0 items) ≡ map (written inputs) items
 row_list inputs items = row_items inputs _ (hidden-the_row-SpecTerm-0 items)
     ∙ ap (map (written inputs)) (items_hidden-the_row-SpecTerm-0 items)

@@ -14,6 +14,7 @@ use Rattle.std.proofs.lemmas.Simd.{mask_l-lt, bit_mask_l, ones-mask_l}
 use Rattle.std.proofs.lemmas.List.FromFn.{length-map-range_with_len, get_or-map-range_with_len}
 use Rattle.std.proofs.lemmas.List.Folds.{find-append}
 use Rattle.std.proofs.lemmas.Bool.Decides.{nat_tests}
+use Rattle.std.proofs.lemmas.Bool.{and_parts}
 use Rattle.pbs_base.specs.declared.refusal.Span.{Span}
 use Rattle.pbs_base.specs.Entries.{bit}
 use Rattle.bool_terms.specs.Terms.{Term, Const, Input, Not, And, Or, mentions, input_set, IsInputSet, term_inputs_below}
@@ -21,7 +22,6 @@ use Rattle.bool_terms.proofs.InputSets.{input_set_one, input_set_and, input_set_
 use Rattle.pbs_ast.specs.Trees.{Tree, Empty, Terminal, Action, Seq, Choice, Star, Hold, Scope}
 use Rattle.pbs_ast.specs.Sound.{inputs_below, first_wide, or_else}
 use Rattle.pbs_expand.specs.Wide.{Place, places_in, mentioned, distinct_inputs, first_too_wide}
-use Rattle.pbs_expand.proofs.Limits.{both_true}
 
 -- ---- how many bits are 1
 digit : (b : ℕ) → b < 2 → b ≡ cond (nat_eq b 1) 1 0
@@ -62,9 +62,9 @@ set_is : (t : Term) → term_inputs_below 64 t ≡ true → IsInputSet t (input_
 set_is (Const b) below = record { exact = λ n within. none_mentioned (Const b) n refl }
 set_is (Input n) below = input_set_one n below
 set_is (Not t) below = let inner = set_is t below in record { exact = inner.exact }
-set_is (And t u) below = let two = both_true (term_inputs_below 64 t) (term_inputs_below 64 u) below in input_set_and
+set_is (And t u) below = let two = and_parts (term_inputs_below 64 t) (term_inputs_below 64 u) below in input_set_and
     t u (input_set t) (input_set u) (set_is t two.0) (set_is u two.1)
-set_is (Or t u) below = let two = both_true (term_inputs_below 64 t) (term_inputs_below 64 u) below in input_set_or t
+set_is (Or t u) below = let two = and_parts (term_inputs_below 64 t) (term_inputs_below 64 u) below in input_set_or t
     u (input_set t) (input_set u) (set_is t two.0) (set_is u two.1)
 
 set_below : (t : Term) → input_set t < 2 ^ 64
@@ -139,19 +139,19 @@ wide_in (Terminal at p t) holds held is below = first_of_one at.span (t ∷ hold
     (one_held holds held t is below))
 wide_in (Action at a) holds held is below = refl
 wide_in (Seq at e f) holds held is below =
-    let two = both_true (inputs_below 64 e) (inputs_below 64 f) below in
+    let two = and_parts (inputs_below 64 e) (inputs_below 64 f) below in
     both_first (first_wide held e) (first_wide held f) (places_in holds e) (places_in holds f)
     (wide_in e holds held is two.0) (wide_in f holds held is two.1)
 wide_in (Choice at e f) holds held is below =
-    let two = both_true (inputs_below 64 e) (inputs_below 64 f) below in
+    let two = and_parts (inputs_below 64 e) (inputs_below 64 f) below in
     both_first (first_wide held e) (first_wide held f) (places_in holds e) (places_in holds f)
     (wide_in e holds held is two.0) (wide_in f holds held is two.1)
 wide_in (Star at e) holds held is below = wide_in e holds held is below
 wide_in (Hold at t e) holds held is below =
-    let two = both_true (term_inputs_below 64 t) (inputs_below 64 e) below in
+    let two = and_parts (term_inputs_below 64 t) (inputs_below 64 e) below in
     wide_in e (t ∷ holds) (bit_or held (input_set t)) (one_held holds held t is two.0) two.1
 wide_in (Scope at s e x h) holds held is below =
-    let two = both_true (inputs_below 64 e) _ below in let rest = both_true (inputs_below 64 x) (inputs_below 64 h)
+    let two = and_parts (inputs_below 64 e) _ below in let rest = and_parts (inputs_below 64 x) (inputs_below 64 h)
     two.1 in
     both_first (first_wide held e) (or_else (first_wide held x) (first_wide held h)) (places_in holds e)
     (places_in holds x ++ places_in holds h) (wide_in e holds held is two.0)

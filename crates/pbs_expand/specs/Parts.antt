@@ -1,15 +1,15 @@
 -- What is visited, and the parts that it has.
-use Rattle.std.specs.Prelude.{ℕ, ◌+◌, ◌-◌, ◌/◌, nat_eq, nat_le, if◌then◌else◌, Option, Some, None}
-use Rattle.std.specs.Prelude.{List, [], ◌∷◌, length, slice_get, take, drop}
+use Rattle.std.specs.Prelude.{ℕ, ◌+◌, ◌-◌, ◌/◌, nat_eq, nat_le, if◌then◌else◌, Option, Some, None, List, [], ◌∷◌}
+use Rattle.std.specs.Prelude.{length, slice_get, take, drop}
 use Rattle.pbs_base.specs.declared.refusal.Span.{Span}
 use Rattle.pbs_ast.specs.declared.syntax.Expr.{Expr}
 use Rattle.pbs_ast.specs.declared.syntax.Prod.{Prod}
 use Rattle.pbs_ast.specs.declared.syntax.SpecTerm.{SpecTerm}
 use Rattle.pbs_ast.specs.declared.syntax.Kind as kind
 use Rattle.pbs_ast.specs.declared.syntax.Kind.{Row_of-Expr, end_of-Expr, more_of-Expr}
-use Rattle.pbs_rules.specs.Naming.{body_of}
-use Rattle.pbs_rules.specs.Forms.{expr_of, form}
-use Rattle.pbs_rules.specs.Forms as forms
+use Rattle.pbs_names.specs.Naming.{body_of}
+use Rattle.pbs_names.specs.Forms.{expr_of, form}
+use Rattle.pbs_names.specs.Forms as forms
 use Rattle.pbs_expand.specs.declared.parts.Pairing.{Pairing}
 use Rattle.pbs_expand.specs.declared.parts.Pairing.TheVariants.{Sequence, Choice}
 use Rattle.pbs_expand.specs.declared.parts.Part as part_types

@@ -4,8 +4,8 @@ use Rattle.pbs_base.specs.declared.refusal.Span.{Span}
 use Rattle.pbs_ast.specs.Trees.{Tree}
 use Rattle.pbs_ast.specs.Sound.{inputs_below, actions_below}
 use Rattle.pbs_ast.specs.declared.syntax.Spec.{Spec}
-use Rattle.pbs_rules.specs.Naming.{input_names}
-use Rattle.pbs_rules.specs.Moving.{Rule9, Rule10}
+use Rattle.pbs_names.specs.Naming.{input_names}
+use Rattle.pbs_names.specs.StarsAndScopes.{Rule9, Rule10}
 
 -- neither rule 9 nor rule 10 is broken, and there are few enough inputs and actions
 pub record IsReady (spec : Spec) : Type 0 where

@@ -6,7 +6,7 @@ use Rattle.pbs_ast.specs.declared.syntax.Spec.{Spec}
 use Rattle.pbs_expand.specs.declared.parts.Pairing.{Pairing}
 use Rattle.pbs_expand.specs.Parts as parts
 use Rattle.pbs_expand.specs.Parts.{Part, Shape, shape, span_of}
-use Rattle.pbs_rules.specs.Naming.{action_names, index_of}
+use Rattle.pbs_names.specs.Naming.{action_names, index_of}
 use Rattle.pbs_expand.specs.Written.{written}
 
 -- a node for each visit; what is deeper than the limit is beyond

@@ -1,13 +1,13 @@
 -- The term that a written term stands for.
-use Rattle.std.specs.Prelude.{ℕ, zero, suc, true, false, ◌+◌, ◌/◌, if◌then◌else◌, Option, Some, None}
-use Rattle.std.specs.Prelude.{List, [], ◌∷◌, length, take, drop}
+use Rattle.std.specs.Prelude.{ℕ, zero, suc, true, false, ◌+◌, ◌/◌, if◌then◌else◌, Option, Some, None, List, [], ◌∷◌}
+use Rattle.std.specs.Prelude.{length, take, drop}
 use Rattle.pbs_base.specs.Entries.{bit}
 use Rattle.bool_terms.specs.Terms.{Term, Const, Input, Not, And, Or}
 use Rattle.pbs_ast.specs.declared.syntax.Decl.{Decl}
 use Rattle.pbs_ast.specs.declared.syntax.SpecTerm as terms
 use Rattle.pbs_ast.specs.declared.syntax.SpecTerm.{Row_of-SpecTerm, end_of-SpecTerm, more_of-SpecTerm}
-use Rattle.pbs_rules.specs.declared.buses.Bus.{Bus}
-use Rattle.pbs_rules.specs.Naming.{input_names, index_of, bus_of}
+use Rattle.pbs_names.specs.declared.buses.Bus.{Bus}
+use Rattle.pbs_names.specs.Naming.{input_names, index_of, bus_of}
 use Rattle.pbs_expand.specs.declared.terms.Connective.{Connective}
 use Rattle.pbs_expand.specs.declared.terms.Connective.TheVariants.{AndOf, OrOf}
 

@@ -11,7 +11,7 @@ use crate::growth::grow;
 use crate::parts::Part;
 use pbs_ast::{Main, Spec, Tree, first_wide};
 use pbs_base::{Refusal, Span, Subject};
-use pbs_rules::Index;
+use pbs_names::Index;
 use std::alloc::Global;
 
 fn refused(rule: u8, span: Span) -> Refusal

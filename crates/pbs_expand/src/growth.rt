@@ -2,9 +2,8 @@
 
 ghost use Rattle.std.specs.Prelude.{◌≡◌};
 ghost use Rattle.pbs_expand.specs.Parts.{part_of};
-ghost use Rattle.pbs_expand.specs.inner.Outcomes.{IsWithin};
-ghost use Rattle.pbs_expand.specs.inner.Outcomes.{IsOutcome, outcome};
-ghost use Rattle.pbs_rules.specs.Naming.{action_names, index_of};
+ghost use Rattle.pbs_expand.specs.inner.Outcomes.{IsWithin, IsOutcome, outcome};
+ghost use Rattle.pbs_names.specs.Naming.{action_names, index_of};
 ghost use Rattle.pbs_expand.specs.inner.Numbers.{Serves};
 ghost use Rattle.pbs_expand.specs.Walks.{walk, action_walk};
 ghost use Rattle.pbs_expand.specs.Walks as walks;
@@ -15,7 +14,7 @@ use crate::parts::{Pairing, Part, Shape, part_span, parts_of};
 use crate::terms::write_term;
 use pbs_ast::{Spec, SpecTerm, TreeKind};
 use pbs_base::{Span, Word};
-use pbs_rules::Index;
+use pbs_names::Index;
 use std::alloc::Global;
 
 const NAME: Counters = Counters {

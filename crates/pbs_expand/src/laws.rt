@@ -1,21 +1,24 @@
 //! The laws of the expansion. Each is a function that does nothing, and its clauses are the law.
 
-ghost use Rattle.std.specs.Prelude.{◌≡◌, ◌≤◌, ◌<◌, ◌+◌, ◌↔◌, None, Some, List, true, ℕ};
+ghost use Rattle.std.specs.Prelude.{◌≡◌, ◌≤◌, ◌<◌, ◌+◌, ◌↔◌, None, Some, List, Result, true, ℕ};
 ghost use Rattle.std.specs.List.{list_all, list_any};
 ghost use Rattle.pbs_base.specs.Entries.{bit};
 ghost use Rattle.pbs_base.specs.declared.refusal.Span.{Span};
 ghost use Rattle.bool_terms.specs.Terms.{holds};
 ghost use Rattle.pbs_ast.specs.declared.syntax.Decl.{Decl};
 ghost use Rattle.pbs_ast.specs.declared.syntax.SpecTerm.{SpecTerm, All, Any, Equal};
-ghost use Rattle.pbs_rules.specs.declared.buses.Bus.{Bus};
-ghost use Rattle.pbs_rules.specs.Naming.{bus_of};
+ghost use Rattle.pbs_names.specs.declared.buses.Bus.{Bus};
+ghost use Rattle.pbs_names.specs.Naming.{bus_of};
 ghost use Rattle.pbs_expand.specs.Written.{written};
+ghost use Rattle.pbs_ast.specs.Bare.{bare};
 ghost use Rattle.pbs_ast.specs.Repeats.{blank, filled, repeated};
+ghost use Rattle.pbs_ast.specs.declared.main_tree.Main.{Main};
 ghost use Rattle.pbs_ast.specs.declared.syntax.Expr.{Expr};
 ghost use Rattle.pbs_ast.specs.declared.syntax.Spec.{Spec};
-ghost use Rattle.pbs_rules.specs.Forms.{Repeat, form};
+ghost use Rattle.pbs_names.specs.Forms.{Repeat, form};
 ghost use Rattle.pbs_expand.specs.declared.build.Counters.{Counters};
-ghost use Rattle.pbs_expand.specs.Expanded.{main_walk, over_limit};
+ghost use Rattle.pbs_expand.specs.declared.failure.Expand.{Expand};
+ghost use Rattle.pbs_expand.specs.Expanded.{Gives, expanded, main_walk, over_limit, refusal};
 ghost use Rattle.pbs_expand.specs.Parts.{Whole};
 ghost use Rattle.pbs_expand.specs.Visits.{numbered};
 ghost use Rattle.pbs_expand.specs.Walks.{complete, walk};
@@ -43,4 +46,11 @@ pub fn meaning()
         → bus_of inputs name ≡ Some bus → (v : ℕ)
         → (holds (written inputs (Equal name at number number_at)) v ≡ true)
         ↔ ((k : ℕ) → k < bus.width → bit (bus.start + k) v ≡ bit k number) }
+{}
+
+/// A specification and the same one with its boxes at one place have one expansion: the same tree, refusal and answers.
+pub fn same_expansion()
+    ensures tree { (spec : Spec) → expanded (bare spec) ≡ expanded spec }
+    ensures refusal { (spec : Spec) → refusal (bare spec) ≡ refusal spec }
+    ensures answer { (spec : Spec) (result : Result Main Expand) → Gives spec result ↔ Gives (bare spec) result }
 {}

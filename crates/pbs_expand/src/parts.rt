@@ -2,15 +2,15 @@
 
 ghost use Rattle.std.specs.Prelude.{◌≡◌, ◌≤◌, ◌<◌, ◌+◌, length};
 ghost use Rattle.std.specs.Option.{option_copied};
-ghost use Rattle.pbs_rules.specs.Naming.{prod_names};
-ghost use Rattle.pbs_rules.specs.Numbers.{IsNumbering};
-ghost use Rattle.pbs_expand.specs.Parts.{part_of, shape_of, shape, expr_shape, stripped, span_of};
-ghost use Rattle.pbs_expand.specs.Parts.{run_part, halves, listed_shape, run_span, start_at, end_at, named_shape};
-ghost use Rattle.pbs_expand.specs.Parts.{copies_part, copies_shape, upto_shape, repeat_shape};
+ghost use Rattle.pbs_names.specs.Naming.{prod_names};
+ghost use Rattle.pbs_names.specs.Numbers.{IsNumbering};
+ghost use Rattle.pbs_expand.specs.Parts.{part_of, shape_of, shape, expr_shape, stripped, span_of, run_part, halves};
+ghost use Rattle.pbs_expand.specs.Parts.{listed_shape, run_span, start_at, end_at, named_shape, copies_part};
+ghost use Rattle.pbs_expand.specs.Parts.{copies_shape, upto_shape, repeat_shape};
 
 use pbs_ast::{Expr, Kind, Prods, SpecTerm};
 use pbs_base::{Span, Word};
-use pbs_rules::{Numbers, body_of};
+use pbs_names::{Numbers, body_of};
 
 /// The two ways in which two parts make one node.
 #[derive(Clone, Copy)]

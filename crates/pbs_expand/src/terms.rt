@@ -2,15 +2,15 @@
 
 ghost use Rattle.std.specs.Prelude.{◌≡◌, ◌≤◌, ◌<◌, ◌+◌, length, vec_len, map, MatchOption, IfOk, if◌then◌else◌};
 ghost use Rattle.bool_terms.specs.Terms.{term_of, term_nodes, Not, Input};
-ghost use Rattle.pbs_rules.specs.Naming.{index_of, input_names, bus_of};
-ghost use Rattle.pbs_rules.specs.Numbers.{IsNumbering};
+ghost use Rattle.pbs_names.specs.Naming.{index_of, input_names, bus_of};
+ghost use Rattle.pbs_names.specs.Numbers.{IsNumbering};
 ghost use Rattle.pbs_expand.specs.Written.{written, named_term, both, empty_term, equal_term, joined, literals};
 ghost use Rattle.pbs_expand.specs.inner.WrittenTerms.{IsWritten, IsJoined, AreWritten, AreLiterals, weight};
 
 use bool_terms::Term;
 use pbs_ast::{Decls, SpecTerm, TermItems};
 use pbs_base::{Memory, Word};
-use pbs_rules::{Bus, Numbers, find_bus};
+use pbs_names::{Bus, Numbers, find_bus};
 use std::alloc::Global;
 
 #[derive(Clone, Copy)]

@@ -1,6 +1,6 @@
 -- Reading answers exactly what the grammar says.
-use Rattle.std.proofs.Common.{◌≡◌, ℕ, ◌≤◌, List, [], ◌∷◌, ◌++◌, ◌⊎◌, inl, inr, Bool, cond, Option, Some, None, Result}
-use Rattle.std.proofs.Common.{Ok, Err, refl, sym, ap, subst, ◌∙◌, append_assoc, append-nil, false, true, arith}
+use Rattle.std.proofs.Common.{◌≡◌, ℕ, ◌≤◌, List, [], ◌∷◌, ◌++◌, length, ◌⊎◌, inl, inr, Bool, cond, Option, Some, None}
+use Rattle.std.proofs.Common.{Result, Ok, Err, refl, sym, ap, subst, ◌∙◌, append_assoc, append-nil, false, true, arith}
 use Rattle.std.specs.Prelude.{option_and_then, ⊤, IsTrue}
 use Rattle.std.proofs.lemmas.Bool.{false≢true}
 use Rattle.std.proofs.lemmas.Bool.Decides.{nat_tests}
@@ -10,19 +10,15 @@ use Rattle.pbs_text.specs.declared.token.Token.{Token}
 use Rattle.pbs_text.specs.declared.token.TokenKind.{TokenKind}
 use Rattle.pbs_text.specs.declared.token.TokenKind.TheVariants.{OpenRound, Tilde}
 use Rattle.pbs_text.specs.Grammar.{TextPhrase, IsText, Begins}
-use Rattle.pbs_text.specs.Holes.{ExprHole, OfGroup, OfProd, OfMain, SeqHole, FirstSeq, NextSeq, ItemHole, FirstItem}
-use Rattle.pbs_text.specs.Holes.{NextItem, GroupHole, AsPrim, OfHold, OfBody, OfTrap, OfAfter, UnitHole, before_item}
-use Rattle.pbs_text.specs.Holes.{before_group, before_unit, expr_nesting, seq_nesting, item_nesting, group_nesting}
-use Rattle.pbs_text.specs.Holes.{unit_nesting}
-use Rattle.pbs_text.specs.places.Places.{Place, Start, WantsItem, WantsGroup, InGroup, WantsUnit, Whole, before}
+use Rattle.pbs_text.specs.places.Places.{Place, Start, WantsItem, WantsGroup, InGroup, WantsUnit, Whole}
 use Rattle.pbs_text.specs.places.Steps.{step, walk}
-use Rattle.pbs_text.specs.Refusals.{refusal, CannotStand, opens, Opening, ForItem, ForGroup, ForUnit, before_opening}
-use Rattle.pbs_text.specs.Refusals.{nesting, IsTooDeep, NoneStops, IsRefused, AtToken, AtDepth, AtEnd, IsRead, Says}
+use Rattle.pbs_text.specs.Nesting.{Opened, opened}
+use Rattle.pbs_text.specs.Refusals.{refusal, CannotStand, opens, IsTooDeep, NoneStops, IsRefused, AtToken, AtDepth}
+use Rattle.pbs_text.specs.Refusals.{AtEnd, IsRead, Says}
 use Rattle.pbs_text.specs.places.Reading.{is_too_deep, stepped, bind, ended, read}
-use Rattle.pbs_grammar.proofs.Walks.{at_some, any, walk-before, walk-append}
-use Rattle.pbs_grammar.proofs.Phrases.{at_expr, at_seq, at_item, at_group, walk-item_hole, walk-group_hole}
-use Rattle.pbs_grammar.proofs.Phrases.{walk-unit_hole, walk-text, passed_begins, begins_passed, whole_is_text}
-use Rattle.pbs_grammar.proofs.Phrases.{one_phrase}
+use Rattle.pbs_grammar.proofs.Walks.{at_some, any, walk-append}
+use Rattle.pbs_grammar.proofs.Nesting.{is_over, deep-over}
+use Rattle.pbs_grammar.proofs.Phrases.{walk-text, passed_begins, begins_passed, whole_is_text, one_phrase}
 
 -- two splits of one list
 data Splits (a : List Token) (t : Token) (b : List Token) (a' : List Token) (t' : Token)
@@ -64,115 +60,25 @@ more_stops taken t none can shallow a b s e = by (splits taken [] a b t s e)
 
 -- ---- the token at which reading stops
 
--- a place at which a token is too deep
-record DeepThere (p : Place) (k : TokenKind) : Type 0 where
-  opening : Opening
-  same : before p ≡ before_opening opening
-  opens_one : IsTrue (opens k)
-  deep : 64 ≤ nesting opening
-  onward : (at : Span) → (q : Place) × (step p k at ≡ Some q)
+-- where a token is too deep it may stand
+deep_stands : (p : Place) (k : TokenKind) (at : Span) → is_too_deep p k ≡ true → (q : Place) × (step p k at ≡ Some q)
+deep_stands (WantsUnit h) Tilde at e = (_, refl)
+deep_stands (WantsUnit h) OpenRound at e = (_, refl)
+deep_stands (WantsItem h) OpenRound at e = (_, refl)
+deep_stands (WantsGroup g) OpenRound at e = (_, refl)
+deep_stands (InGroup o g) OpenRound at e = (_, refl)
+deep_stands _ _ at e = absurd (false≢true e)
 
-deep_there : (p : Place) (k : TokenKind) → is_too_deep p k ≡ true → DeepThere p k
-deep_there (WantsUnit h) Tilde e = record {
-  opening = ForUnit h;
-  same = refl;
-  opens_one = refl;
-  deep = grind
-      (arith, nat_tests);
-  onward = λ at. (_, refl);
-}
-deep_there (WantsUnit h) OpenRound e = record {
-  opening = ForUnit h;
-  same = refl;
-  opens_one = refl;
-  deep = grind
-      (arith, nat_tests);
-  onward = λ at. (_, refl);
-}
-deep_there (WantsItem h) OpenRound e = record {
-  opening = ForItem h;
-  same = refl;
-  opens_one = refl;
-  deep = grind
-      (arith, nat_tests);
-  onward = λ at. (_, refl);
-}
-deep_there (WantsGroup g) OpenRound e = record {
-  opening = ForGroup g;
-  same = refl;
-  opens_one = refl;
-  deep = grind
-      (arith, nat_tests);
-  onward = λ at. (_, refl);
-}
-deep_there (InGroup o g) OpenRound e =
-    record {
-      opening = ForItem (FirstItem (FirstSeq (OfGroup o g)));
-      same = refl;
-      opens_one = refl;
-      deep = grind
-          (arith, nat_tests);
-      onward = λ at. (_, refl);
-    }
-deep_there _ _ e = absurd (false≢true e)
+-- what a token is that is over, and that such a token is
+over_opens : (k : TokenKind) (s : List Opened) → is_over k s ≡ true → IsTrue (opens k) × (64 ≤ length s)
+over_opens Tilde s e = (refl, grind (arith, nat_tests))
+over_opens OpenRound s e = (refl, grind (arith, nat_tests))
+over_opens _ s e = absurd (false≢true e)
 
--- a token that opens the 65th construct at this place, where it may stand
-abbrev FindsDeep : Place → ℕ → Type 0
-FindsDeep p n = (k : TokenKind) (at : Span) (q : Place) → IsTrue (opens k) → 64 ≤ n → step p k at ≡ Some q
-    → is_too_deep p k ≡ true
-
-deep_wanted : {two : Bool} (h : ItemHole two) → FindsDeep (WantsItem h) (item_nesting h)
-deep_wanted h OpenRound at q o d s = grind (arith, nat_tests)
-deep_wanted h Tilde at q o d s = absurd cc
-deep_wanted h _ at q o d s = absurd (false≢true o)
-
-deep_expr : {two : Bool} (h : ExprHole two) → FindsDeep (at_expr h) (expr_nesting h)
-deep_expr (OfGroup b g) OpenRound at q o d s = grind (arith, nat_tests)
-deep_expr (OfGroup b g) Tilde at q o d s = absurd cc
-deep_expr (OfGroup b g) _ at q o d s = absurd (false≢true o)
-deep_expr (OfProd f a n e) k at q o d s = deep_wanted (FirstItem (FirstSeq (OfProd f a n e))) k at q o d s
-deep_expr (OfMain f a e) k at q o d s = deep_wanted (FirstItem (FirstSeq (OfMain f a e))) k at q o d s
-
-deep_seq : {two : Bool} (h : SeqHole two) → FindsDeep (at_seq h) (seq_nesting h)
-deep_seq (FirstSeq h) k at q o d s = deep_expr h k at q o d s
-deep_seq (NextSeq e b h) k at q o d s = deep_wanted (FirstItem (NextSeq e b h)) k at q o d s
-
-deep_item : {two : Bool} (h : ItemHole two) → FindsDeep (at_item h) (item_nesting h)
-deep_item (FirstItem h) k at q o d s = deep_seq h k at q o d s
-deep_item (NextItem e b h) k at q o d s = deep_wanted (NextItem e b h) k at q o d s
-
-deep_in : {two : Bool} (g : GroupHole two) → FindsDeep (WantsGroup g) (group_nesting g)
-deep_in g OpenRound at q o d s = grind (arith, nat_tests)
-deep_in g Tilde at q o d s = absurd cc
-deep_in g _ at q o d s = absurd (false≢true o)
-
-deep_group : {two : Bool} (g : GroupHole two) → FindsDeep (at_group g) (group_nesting g)
-deep_group (AsPrim h) k at q o d s = deep_item h k at q o d s
-deep_group (OfHold a b t c e h) k at q o d s = deep_in (OfHold a b t c e h) k at q o d s
-deep_group (OfBody a h) k at q o d s = deep_in (OfBody a h) k at q o d s
-deep_group (OfTrap a b c h) k at q o d s = deep_in (OfTrap a b c h) k at q o d s
-deep_group (OfAfter a b c t e h) k at q o d s = deep_in (OfAfter a b c t e h) k at q o d s
-
-deep_unit : {two : Bool} (h : UnitHole two) → FindsDeep (WantsUnit h) (unit_nesting h)
-deep_unit h OpenRound at q o d s = grind (arith, nat_tests)
-deep_unit h Tilde at q o d s = grind (arith, nat_tests)
-deep_unit h _ at q o d s = absurd (false≢true o)
-
-abbrev at_opening : Opening → Place
-at_opening (ForItem h) = at_item h
-at_opening (ForGroup g) = at_group g
-at_opening (ForUnit h) = WantsUnit h
-
-deep_found : (o : Opening) → FindsDeep (at_opening o) (nesting o)
-deep_found (ForItem h) k at q o d s = deep_item h k at q o d s
-deep_found (ForGroup g) k at q o d s = deep_group g k at q o d s
-deep_found (ForUnit h) k at q o d s = deep_unit h k at q o d s
-
--- the tokens before an opening lead to it
-walk-opening : (o : Opening) → walk Start (before_opening o) ≡ Some (at_opening o)
-walk-opening (ForItem h) = ap (walk Start) (sym (append-nil (before_item h))) ∙ walk-item_hole h []
-walk-opening (ForGroup g) = ap (walk Start) (sym (append-nil (before_group g))) ∙ walk-group_hole g []
-walk-opening (ForUnit h) = ap (walk Start) (sym (append-nil (before_unit h))) ∙ walk-unit_hole h []
+opens_over : (k : TokenKind) (s : List Opened) → IsTrue (opens k) → 64 ≤ length s → is_over k s ≡ true
+opens_over Tilde s o deep = grind (arith, nat_tests)
+opens_over OpenRound s o deep = grind (arith, nat_tests)
+opens_over _ s o deep = absurd (false≢true o)
 
 -- one more step of a walk
 walk-then : (taken : List Token) (t : Token) (p q r : Place) → walk r taken ≡ Some p → step p t.kind t.span ≡ Some q
@@ -205,26 +111,20 @@ stuck taken t p e s b = let x = step_there taken t p e b in let no : None ≡ So
 too_deep : (taken : List Token) (t : Token) (p : Place) → walk Start taken ≡ Some p → is_too_deep p t.kind ≡ true
     → IsTooDeep taken t
 too_deep taken t p e d =
-    let x = deep_there p t.kind d in
+    let x = deep_stands p t.kind t.span d in
+    let over = over_opens t.kind (opened taken) (sym (deep-over taken t.kind t.span p x.0 e x.1) ∙ d) in
     record {
-      begins = passed_begins (taken ++ t ∷ []) (x.onward t.span).0
-          (walk-then taken t p (x.onward t.span).0 Start e (x.onward t.span).1);
-      opens_one = x.opens_one;
-      opening = x.opening;
-      taken_is = sym x.same ∙ walk-before taken Start p e;
-      deep = x.deep;
+      begins = passed_begins (taken ++ t ∷ []) x.0 (walk-then taken t p x.0 Start e x.1);
+      opens_one = over.0;
+      deep = over.1;
     }
 
 not_deep : (taken : List Token) (t : Token) (p : Place) → walk Start taken ≡ Some p → is_too_deep p t.kind ≡ false
     → ¬ IsTooDeep taken t
 not_deep taken t p e d deep =
-    let there : walk Start taken ≡ Some (at_opening deep.opening) = ap (walk Start) (sym deep.taken_is)
-    ∙ walk-opening deep.opening in
-    let both : Some p ≡ Some (at_opening deep.opening) = sym e ∙ there in
-    let same : p ≡ at_opening deep.opening = cc in
-    let x = step_there taken t (at_opening deep.opening) there deep.begins in
-    false≢true (sym (subst (λ y. is_too_deep y t.kind ≡ false) same d)
-    ∙ deep_found deep.opening t.kind t.span x.0 deep.opens_one deep.deep x.1)
+    let x = step_there taken t p e deep.begins in
+    false≢true (sym d ∙ (deep-over taken t.kind t.span p x.0 e x.1
+    ∙ opens_over t.kind (opened taken) deep.opens_one deep.deep))
 
 no_text : (taken : List Token) (p : Place) → walk Start taken ≡ Some p → ((w : TextPhrase) → p ≡ Whole w → ⊥)
     → ¬ IsText taken

@@ -12,9 +12,10 @@ use Rattle.pbs_text.specs.Grammar.{token, Second, Numeral, OneNumeral, UnitPhras
 use Rattle.pbs_text.specs.Grammar.{Compared, AllPhrase, OneUnit, MoreUnits, TermPhrase, OneAll, MoreAlls, ItemPhrase}
 use Rattle.pbs_text.specs.Grammar.{Plain, Counted, PrimPhrase, Action, Call, Grouped, Hold, Try, GroupPhrase}
 use Rattle.pbs_text.specs.Grammar.{EmptyGroup, SetsPhrase, TextPhrase}
-use Rattle.pbs_text.specs.Holes.{Front, OfGroup, OfProd, OfMain, FirstSeq, NextSeq, ItemHole, FirstItem, NextItem}
-use Rattle.pbs_text.specs.Holes.{GroupHole, AsPrim, OfHold, OfBody, OfTrap, OfAfter, OfTerminal, OfGuard, InRound}
-use Rattle.pbs_text.specs.Holes.{AllHole, FirstAll, NextAll, UnitHole, UnderNot, FirstUnit, NextUnit}
+use Rattle.pbs_text.specs.places.Holes.{Front, OfGroup, OfProd, OfMain, FirstSeq, NextSeq, ItemHole, FirstItem}
+use Rattle.pbs_text.specs.places.Holes.{NextItem, GroupHole, AsPrim, OfHold, OfBody, OfTrap, OfAfter, OfTerminal}
+use Rattle.pbs_text.specs.places.Holes.{OfGuard, InRound, AllHole, FirstAll, NextAll, UnitHole, UnderNot, FirstUnit}
+use Rattle.pbs_text.specs.places.Holes.{NextUnit}
 use Rattle.pbs_text.specs.places.Places.{NameHole, FirstName, NextName, LevelFront, Place, Start, AfterSpec}
 use Rattle.pbs_text.specs.places.Places.{AfterVersion, InDecls, WantsInput, AfterInputName, WantsWidth, AfterInput}
 use Rattle.pbs_text.specs.places.Places.{WantsName, AfterName, AfterLevel, AfterLevelName, AfterLevelEquals}

@@ -7,38 +7,36 @@ use Rattle.pbs_text.specs.declared.token.Token.{Token}
 use Rattle.pbs_text.specs.declared.token.Operator.{Operator}
 use Rattle.pbs_text.specs.declared.token.Operator.TheVariants.{StarOp, PlusOp, OptOp}
 use Rattle.pbs_text.specs.declared.token.TokenKind.{TokenKind}
-use Rattle.pbs_text.specs.declared.token.TokenKind.TheVariants.{Name, ProdWord, MainWord, HoldWord, TryWord}
-use Rattle.pbs_text.specs.declared.token.TokenKind.TheVariants.{AbortWord, ThenWord, Semicolon, Comma, Equals}
-use Rattle.pbs_text.specs.declared.token.TokenKind.TheVariants.{OpenCurly, CloseCurly, OpenRound, CloseRound}
-use Rattle.pbs_text.specs.declared.token.TokenKind.TheVariants.{OpenSquare, CloseSquare, Bar, Tilde, Ampersand, Colon}
-use Rattle.pbs_text.specs.Grammar.{token, Second, bit_kind, version_kind, Numeral, ZeroNumeral, OneNumeral}
-use Rattle.pbs_text.specs.Grammar.{TwoNumeral, DigitNumeral, LongNumeral, numeral_kind, Width, OneBit, TwoBits}
-use Rattle.pbs_text.specs.Grammar.{MoreBits, width_kind, operator_kind, UnitPhrase, Negated, Bracketed, Named, Bit}
-use Rattle.pbs_text.specs.Grammar.{Compared, AllPhrase, OneUnit, MoreUnits, TermPhrase, OneAll, MoreAlls, ExprPhrase}
-use Rattle.pbs_text.specs.Grammar.{OneSeq, MoreSeqs, SeqPhrase, OneItem, MoreItems, ItemPhrase, Plain, Repeated}
-use Rattle.pbs_text.specs.Grammar.{Counted, PrimPhrase, Terminal, Action, Call, Grouped, Hold, Try, GroupPhrase}
-use Rattle.pbs_text.specs.Grammar.{EmptyGroup, FullGroup, InputPhrase, OneWire, Bus, InputsPhrase, OneInput}
-use Rattle.pbs_text.specs.Grammar.{MoreInputs, NamesPhrase, OneName, MoreNames, SetsPhrase, NoSets, MoreSets}
-use Rattle.pbs_text.specs.Grammar.{DeclPhrase, InputDecl, ActionDecl, LevelDecl, ProdDecl, DeclsPhrase, NoDecls}
-use Rattle.pbs_text.specs.Grammar.{MoreDecls, TextPhrase, OfVersion, unit_tokens, all_tokens, term_tokens}
-use Rattle.pbs_text.specs.Grammar.{expr_tokens, seq_tokens, item_tokens, prim_tokens, group_tokens, input_tokens}
-use Rattle.pbs_text.specs.Grammar.{inputs_tokens, names_tokens, sets_tokens, decl_tokens, decls_tokens, head_tokens}
-use Rattle.pbs_text.specs.Grammar.{text_tokens, Begins}
-use Rattle.pbs_text.specs.Holes.{Front, ExprHole, OfGroup, OfProd, OfMain, SeqHole, FirstSeq, NextSeq, ItemHole}
-use Rattle.pbs_text.specs.Holes.{FirstItem, NextItem, GroupHole, AsPrim, OfHold, OfBody, OfTrap, OfAfter, TermHole}
-use Rattle.pbs_text.specs.Holes.{OfTerminal, OfGuard, InRound, AllHole, FirstAll, NextAll, UnitHole, UnderNot}
-use Rattle.pbs_text.specs.Holes.{FirstUnit, NextUnit, front_tokens, before_expr, before_seq, before_item}
-use Rattle.pbs_text.specs.Holes.{before_group, before_term, before_all, before_unit}
-use Rattle.pbs_text.specs.places.Places.{InputHole, FirstInput, NextInput, FirstName, LevelFront, Place, Start}
-use Rattle.pbs_text.specs.places.Places.{InDecls, WantsInput, AfterInputName, WantsWidth, AfterInput, WantsName}
-use Rattle.pbs_text.specs.places.Places.{AfterName, AfterLevelEquals, AfterLevelBit, InLevel, AfterSetColon}
-use Rattle.pbs_text.specs.places.Places.{AfterSetBit, WantsItem, WantsGroup, InGroup, AfterPrim, WantsLeast}
-use Rattle.pbs_text.specs.places.Places.{AfterLeast, WantsMost, AfterMost, AfterItem, WantsUnit, AfterUnitName}
-use Rattle.pbs_text.specs.places.Places.{WantsNumber, Whole}
-use Rattle.pbs_text.specs.places.Steps.{second, bit_of, version_of, numeral_of, width_of, with_next, unit_hole}
-use Rattle.pbs_text.specs.places.Steps.{unit_all, with_unit, with_group, with_item, seq_hole, with_seq, expr_hole}
-use Rattle.pbs_text.specs.places.Steps.{close_round, close_square, close_group, close_expr, end_unit, start_item}
-use Rattle.pbs_text.specs.places.Steps.{end_item, end_input, first_front, level_front, step, walk}
+use Rattle.pbs_text.specs.declared.token.TokenKind.TheVariants.{Name, ProdWord, MainWord, HoldWord, TryWord, AbortWord}
+use Rattle.pbs_text.specs.declared.token.TokenKind.TheVariants.{ThenWord, Semicolon, Comma, Equals, OpenCurly}
+use Rattle.pbs_text.specs.declared.token.TokenKind.TheVariants.{CloseCurly, OpenRound, CloseRound, OpenSquare}
+use Rattle.pbs_text.specs.declared.token.TokenKind.TheVariants.{CloseSquare, Bar, Tilde, Ampersand, Colon}
+use Rattle.pbs_text.specs.Grammar.{token, Second, bit_kind, Numeral, ZeroNumeral, OneNumeral, TwoNumeral, DigitNumeral}
+use Rattle.pbs_text.specs.Grammar.{LongNumeral, numeral_kind, Width, OneBit, TwoBits, MoreBits, width_kind}
+use Rattle.pbs_text.specs.Grammar.{operator_kind, UnitPhrase, Negated, Bracketed, Named, Bit, Compared, AllPhrase}
+use Rattle.pbs_text.specs.Grammar.{OneUnit, MoreUnits, TermPhrase, OneAll, MoreAlls, ExprPhrase, OneSeq, MoreSeqs}
+use Rattle.pbs_text.specs.Grammar.{SeqPhrase, OneItem, MoreItems, ItemPhrase, Plain, Repeated, Counted, PrimPhrase}
+use Rattle.pbs_text.specs.Grammar.{Terminal, Action, Call, Grouped, Hold, Try, GroupPhrase, EmptyGroup, FullGroup}
+use Rattle.pbs_text.specs.Grammar.{InputPhrase, OneWire, Bus, InputsPhrase, OneInput, MoreInputs, NamesPhrase, OneName}
+use Rattle.pbs_text.specs.Grammar.{MoreNames, SetsPhrase, NoSets, MoreSets, DeclPhrase, InputDecl, ActionDecl}
+use Rattle.pbs_text.specs.Grammar.{LevelDecl, ProdDecl, DeclsPhrase, NoDecls, MoreDecls, TextPhrase, OfVersion}
+use Rattle.pbs_text.specs.Grammar.{unit_tokens, all_tokens, term_tokens, expr_tokens, seq_tokens, item_tokens}
+use Rattle.pbs_text.specs.Grammar.{prim_tokens, group_tokens, input_tokens, inputs_tokens, names_tokens, sets_tokens}
+use Rattle.pbs_text.specs.Grammar.{decl_tokens, decls_tokens, head_tokens, text_tokens, Begins}
+use Rattle.pbs_text.specs.places.Holes.{Front, ExprHole, OfGroup, OfProd, OfMain, SeqHole, FirstSeq, NextSeq, ItemHole}
+use Rattle.pbs_text.specs.places.Holes.{FirstItem, NextItem, GroupHole, AsPrim, OfHold, OfBody, OfTrap, OfAfter}
+use Rattle.pbs_text.specs.places.Holes.{TermHole, OfTerminal, OfGuard, InRound, AllHole, FirstAll, NextAll, UnitHole}
+use Rattle.pbs_text.specs.places.Holes.{UnderNot, FirstUnit, NextUnit, front_tokens, before_expr, before_seq}
+use Rattle.pbs_text.specs.places.Holes.{before_item, before_group, before_term, before_all, before_unit}
+use Rattle.pbs_text.specs.places.Places.{InputHole, FirstInput, NextInput, FirstName, LevelFront, Place, Start, InDecls}
+use Rattle.pbs_text.specs.places.Places.{WantsInput, AfterInputName, WantsWidth, AfterInput, WantsName, AfterName}
+use Rattle.pbs_text.specs.places.Places.{AfterLevelEquals, AfterLevelBit, InLevel, AfterSetColon, AfterSetBit}
+use Rattle.pbs_text.specs.places.Places.{WantsItem, WantsGroup, InGroup, AfterPrim, WantsLeast, AfterLeast, WantsMost}
+use Rattle.pbs_text.specs.places.Places.{AfterMost, AfterItem, WantsUnit, AfterUnitName, WantsNumber, Whole}
+use Rattle.pbs_text.specs.places.Steps.{second, bit_of, numeral_of, width_of, with_next, unit_hole, unit_all, with_unit}
+use Rattle.pbs_text.specs.places.Steps.{with_group, with_item, seq_hole, with_seq, expr_hole, close_round, close_square}
+use Rattle.pbs_text.specs.places.Steps.{close_group, close_expr, end_unit, start_item, end_item, end_input, first_front}
+use Rattle.pbs_text.specs.places.Steps.{level_front, step, walk}
 use Rattle.pbs_grammar.proofs.Walks.{walk-before, walk-append}
 use Rattle.pbs_grammar.proofs.Finishes.{finish}
 

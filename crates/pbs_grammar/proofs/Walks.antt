@@ -14,27 +14,27 @@ use Rattle.pbs_text.specs.declared.token.TokenKind.TheVariants.{Question, Tilde,
 use Rattle.pbs_text.specs.Grammar.{token, bit_kind, version_kind, numeral_kind, width_kind, UnitPhrase, Negated}
 use Rattle.pbs_text.specs.Grammar.{Bracketed, Named, Bit, Compared, AllPhrase, TermPhrase, ExprPhrase, SeqPhrase}
 use Rattle.pbs_text.specs.Grammar.{ItemPhrase, Plain, PrimPhrase, GroupPhrase, EmptyGroup, FullGroup, InputPhrase}
-use Rattle.pbs_text.specs.Grammar.{OneWire, unit_tokens, all_tokens, term_tokens, expr_tokens, seq_tokens}
-use Rattle.pbs_text.specs.Grammar.{item_tokens, group_tokens, input_tokens, inputs_tokens, sets_tokens}
-use Rattle.pbs_text.specs.Holes.{Front, ExprHole, OfGroup, OfProd, OfMain, SeqHole, FirstSeq, NextSeq, ItemHole}
-use Rattle.pbs_text.specs.Holes.{FirstItem, NextItem, GroupHole, AsPrim, OfHold, OfBody, OfTrap, OfAfter, TermHole}
-use Rattle.pbs_text.specs.Holes.{OfTerminal, OfGuard, InRound, AllHole, FirstAll, NextAll, UnitHole, UnderNot}
-use Rattle.pbs_text.specs.Holes.{FirstUnit, NextUnit, front_tokens, before_expr, before_seq, before_item}
-use Rattle.pbs_text.specs.Holes.{before_group, before_term, before_all, before_unit}
-use Rattle.pbs_text.specs.places.Places.{InputHole, FirstInput, NextInput, NameHole, FirstName, NextName, Place}
-use Rattle.pbs_text.specs.places.Places.{Start, AfterSpec, AfterVersion, InDecls, WantsInput, AfterInputName}
-use Rattle.pbs_text.specs.places.Places.{WantsWidth, AfterInput, WantsName, AfterName, AfterLevel, AfterLevelName}
-use Rattle.pbs_text.specs.places.Places.{AfterLevelEquals, AfterLevelBit, InLevel, AfterSetName, AfterSetColon}
-use Rattle.pbs_text.specs.places.Places.{AfterSetBit, AfterProd, AfterProdName, AfterMain, WantsItem, WantsGroup}
-use Rattle.pbs_text.specs.places.Places.{InGroup, InCurly, AfterActionName, AfterHold, AfterGuard, AfterBody}
-use Rattle.pbs_text.specs.places.Places.{AfterTrap, AfterPrim, WantsLeast, AfterLeast, WantsMost, AfterMost}
-use Rattle.pbs_text.specs.places.Places.{AfterItem, WantsUnit, AfterUnitName, WantsNumber, AfterUnit, before_input}
-use Rattle.pbs_text.specs.places.Places.{before_name, level_tokens, before}
+use Rattle.pbs_text.specs.Grammar.{OneWire, unit_tokens, all_tokens, term_tokens, expr_tokens, seq_tokens, item_tokens}
+use Rattle.pbs_text.specs.Grammar.{group_tokens, input_tokens, inputs_tokens, sets_tokens}
+use Rattle.pbs_text.specs.places.Holes.{Front, ExprHole, OfGroup, OfProd, OfMain, SeqHole, FirstSeq, NextSeq, ItemHole}
+use Rattle.pbs_text.specs.places.Holes.{FirstItem, NextItem, GroupHole, AsPrim, OfHold, OfBody, OfTrap, OfAfter}
+use Rattle.pbs_text.specs.places.Holes.{TermHole, OfTerminal, OfGuard, InRound, AllHole, FirstAll, NextAll, UnitHole}
+use Rattle.pbs_text.specs.places.Holes.{UnderNot, FirstUnit, NextUnit, front_tokens, before_expr, before_seq}
+use Rattle.pbs_text.specs.places.Holes.{before_item, before_group, before_term, before_all, before_unit}
+use Rattle.pbs_text.specs.places.Places.{InputHole, FirstInput, NextInput, NameHole, FirstName, NextName, Place, Start}
+use Rattle.pbs_text.specs.places.Places.{AfterSpec, AfterVersion, InDecls, WantsInput, AfterInputName, WantsWidth}
+use Rattle.pbs_text.specs.places.Places.{AfterInput, WantsName, AfterName, AfterLevel, AfterLevelName, AfterLevelEquals}
+use Rattle.pbs_text.specs.places.Places.{AfterLevelBit, InLevel, AfterSetName, AfterSetColon, AfterSetBit, AfterProd}
+use Rattle.pbs_text.specs.places.Places.{AfterProdName, AfterMain, WantsItem, WantsGroup, InGroup, InCurly}
+use Rattle.pbs_text.specs.places.Places.{AfterActionName, AfterHold, AfterGuard, AfterBody, AfterTrap, AfterPrim}
+use Rattle.pbs_text.specs.places.Places.{WantsLeast, AfterLeast, WantsMost, AfterMost, AfterItem, WantsUnit}
+use Rattle.pbs_text.specs.places.Places.{AfterUnitName, WantsNumber, AfterUnit, before_input, before_name, level_tokens}
+use Rattle.pbs_text.specs.places.Places.{before}
 use Rattle.pbs_text.specs.places.Steps.{second, bit_of, version_of, numeral_of, width_of, unit_hole, unit_all}
 use Rattle.pbs_text.specs.places.Steps.{with_unit, with_group, with_all, term_hole, with_item, seq_hole, with_seq}
 use Rattle.pbs_text.specs.places.Steps.{expr_hole, with_input, input_front, input_at, with_name, close_round}
-use Rattle.pbs_text.specs.places.Steps.{close_square, close_group, close_expr, end_unit, compare, start_item}
-use Rattle.pbs_text.specs.places.Steps.{end_item, count, end_input, widen, start_decl, step, walk}
+use Rattle.pbs_text.specs.places.Steps.{close_square, close_group, close_expr, end_unit, compare, start_item, end_item}
+use Rattle.pbs_text.specs.places.Steps.{count, end_input, widen, start_decl, step, walk}
 
 -- ---- what stands before the place behind a phrase
 

@@ -12,7 +12,7 @@ use pbs_ast::{Main, Spec};
 use pbs_base::{Entry, Memory, Names};
 use pbs_check::laws::{declared_once, within_limits};
 use pbs_controller::build_controller;
-use pbs_rules::{action_words, input_words};
+use pbs_names::{action_words, input_words};
 use std::alloc::{AllocError, Global};
 use std::str;
 

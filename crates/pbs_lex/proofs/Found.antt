@@ -2,13 +2,12 @@
 use Rattle.std.proofs.Common.{◌≡◌, ℕ, zero, suc, ◌+◌, ◌-◌, ◌<◌, ◌≤◌, List, [], ◌∷◌, ◌++◌, length, take, drop, Bool}
 use Rattle.std.proofs.Common.{true, false, nat_lt, Option, Some, None, Result, Ok, Err, refl, sym, subst, arith, ap}
 use Rattle.std.proofs.Common.{◌∙◌}
-use Rattle.std.specs.Prelude.{if◌then◌else◌, ◌==◌, codes, ◌&&◌}
+use Rattle.std.specs.Prelude.{if◌then◌else◌, ◌==◌, codes}
 use Rattle.std.specs.List.{prefix_len, list_all}
 use Rattle.std.specs.Str.{bytes_eq}
 use Rattle.std.proofs.lemmas.Bool.Decides.{nat_tests}
 use Rattle.std.proofs.lemmas.List.Folds.{length-prefix_len}
-use Rattle.std.proofs.lemmas.Str.Parse.{digits_value_short, IsNumeralModel, IsDigitsTest, FoldsDigits}
-use Rattle.std.proofs.lemmas.Str.Parse.{numerals_by_fold}
+use Rattle.std.proofs.lemmas.Str.Parse.{digits_value_short, IsNumeralModel, IsDigitsTest, FoldsDigits, numerals_by_fold}
 use Rattle.pbs_base.specs.declared.refusal.Span.{Span}
 use Rattle.pbs_text.specs.declared.token.Token.{Token}
 use Rattle.pbs_text.specs.declared.token.TokenKind.{TokenKind}
@@ -16,19 +15,14 @@ use Rattle.pbs_text.specs.declared.token.Piece.{Piece}
 use Rattle.pbs_text.specs.Grammar.{token}
 use Rattle.pbs_text.specs.Trees.{word_at}
 use Rattle.pbs_text.specs.Lexing.{is_space, is_digit, is_letter, is_word_byte, late_kind, word_kind, digit_kind}
-use Rattle.pbs_text.specs.Lexing.{number_kind, limited, bracket_piece, sign_piece, block_end, block_piece}
-use Rattle.pbs_text.specs.Lexing.{slash_piece, word_piece, number_piece, first_piece, with_token, with_piece, lex}
-use Rattle.pbs_text.specs.Lexing.{decimal_from}
+use Rattle.pbs_text.specs.Lexing.{number_kind, limited, bracket_piece, sign_piece, block_end, block_piece, slash_piece}
+use Rattle.pbs_text.specs.Lexing.{word_piece, number_piece, first_piece, with_token, with_piece, lex, decimal_from}
 use Rattle.std.specs.Int.{IsInRange}
+use Rattle.std.proofs.lemmas.Bool.{and_parts}
 use Rattle.pbs_text.specs.declared.token.TokenKind.TheVariants as kind
 use Rattle.pbs_text.specs.declared.token.Piece.TheVariants as piece
 
 -- ---- tests
-
-pub both : (a b : Bool) → (a && b) ≡ true → (a ≡ true) × (b ≡ true)
-both true true e = (refl, refl)
-both true false e = absurd cc
-both false b e = absurd cc
 
 pub chosen : {A : Type 0} (S : A → Type 0) (c : Bool) (x y : A) → (c ≡ true → S x) → (c ≡ false → S y)
     → S (if c then x else y)
@@ -61,7 +55,7 @@ all_digits = numerals_by_fold _ test decimal_from folds
     test : IsDigitsTest (λ ds. list_all is_digit ds ≡ true)
     test = record {
       empty = refl;
-      parts = λ c cs h. let p = both (is_digit c) (list_all is_digit cs) h in (in_range c p.0, p.1);
+      parts = λ c cs h. let p = and_parts (is_digit c) (list_all is_digit cs) h in (in_range c p.0, p.1);
       more = λ c cs r h. rw (from_range c r, h) refl;
     }
 
@@ -187,7 +181,7 @@ one_low b e = grind (arith, nat_tests)
 
 number-found : (ds : List ℕ) → list_all is_digit ds ≡ true → length ds ≤ 9 → FoundAs ds (number_kind ds)
 number-found [] all few = omega arith
-number-found (b ∷ []) all few = digit-found (b ∷ []) (b - 48) (one_low b (both (is_digit b) true all).0)
+number-found (b ∷ []) all few = digit-found (b ∷ []) (b - 48) (one_low b (and_parts (is_digit b) true all).0)
 number-found (a ∷ b ∷ ds) all few = digits_value_short all_digits (a ∷ b ∷ ds) 9 all few
 
 found-number : (bs : List ℕ) → PieceFound bs (number_piece bs)

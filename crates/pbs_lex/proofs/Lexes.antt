@@ -44,13 +44,6 @@ pub record LexedTo (bytes : List ℕ) (found : List Token) (at : ℕ) (rest : Li
   pub goes_on : with_front found (lex 0 at rest) ≡ lex 0 0 bytes
   pub lengths : at + length rest ≡ length bytes
 
-pub lexed_at_start : (bytes : List ℕ) → LexedTo bytes [] 0 bytes
-lexed_at_start bytes = record { goes_on = by (lex 0 0 bytes); lengths = omega arith }
-  where
-    by : (r : Result (List Token) Span) → with_front [] r ≡ r
-    by (Ok ts) = refl
-    by (Err at) = refl
-
 shorter : (n : ℕ) (at : ℕ) (rest bytes : List ℕ) → n ≤ length rest → at + length rest ≡ length bytes
     → at + n + length (drop n rest) ≡ length bytes
 shorter n at rest bytes h e = let d = length-drop n rest in omega arith

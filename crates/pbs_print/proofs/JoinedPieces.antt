@@ -1,6 +1,6 @@
 -- Joined pieces, one after the other.
-use Rattle.std.proofs.Common.{◌≡◌, ℕ, zero, suc, ◌+◌, ◌≤◌, List, [], ◌∷◌, ◌++◌, length, map, drop, Some, refl, sym, ap}
-use Rattle.std.proofs.Common.{◌∙◌, append_assoc, append-nil, arith, add-one}
+use Rattle.std.proofs.Common.{◌≡◌, ℕ, zero, suc, ◌+◌, List, [], ◌∷◌, ◌++◌, map, drop, Some, refl, sym, ap, ◌∙◌}
+use Rattle.std.proofs.Common.{append_assoc, add-one}
 use Rattle.std.specs.Prelude.{slice_get, codes, Result, Ok, Err, OnOk}
 use Rattle.pbs_base.specs.declared.fail.Memory.{Memory}
 use Rattle.std.specs.List.{concat}
@@ -111,10 +111,6 @@ pub record Writing {A : Type 0} (f : A → List ℕ) (separator : List ℕ) (ite
     (n : ℕ) : Type 0 where
   pub whole : text ++ joined_from n separator (map f (drop n items)) ≡ start ++ joined separator (map f items)
 
-pub writing_first : {A : Type 0} (f : A → List ℕ) (separator : List ℕ) (items : List A) (start : List ℕ)
-    → Writing f separator items start start 0
-writing_first f separator items start = record { whole = refl }
-
 pub writing_next : {A : Type 0} (f : A → List ℕ) (separator : List ℕ) (items : List A) (start text one next : List ℕ)
     (n : ℕ) (x : A) → Some x ≡ slice_get items n
     → one ≡ text ++ lead n separator → next ≡ one ++ f x → Writing f separator items start text n
@@ -126,23 +122,6 @@ writing_next f separator items start text one next n x e p q w =
           ∙ (append_assoc (text ++ lead n separator) (f x) tail ∙ (append_assoc text (lead n separator) (f x ++ tail)
           ∙ (ap (λ l. text ++ l) (sym (joined-next f items n x separator e)) ∙ w.whole)));
     })
-
-drop-all : {A : Type 0} (items : List A) (n : ℕ) → length items ≤ n → drop n items ≡ []
-drop-all [] zero h = refl
-drop-all [] (suc n) h = refl
-drop-all (x ∷ items) zero h = absurd (omega arith)
-drop-all (x ∷ items) (suc n) h = drop-all items n (omega arith)
-
-nothing_left : (n : ℕ) (separator : List ℕ) → joined_from n separator [] ≡ []
-nothing_left zero separator = refl
-nothing_left (suc n) separator = refl
-
-pub writing_last : {A : Type 0} (f : A → List ℕ) (separator : List ℕ) (items : List A) (start text : List ℕ) (n : ℕ)
-    → length items ≤ n → Writing f separator items start text n → text ≡ start ++ joined separator (map f items)
-writing_last f separator items start text n h w =
-    let gone : joined_from n separator (map f (drop n items)) ≡ [] = ap (λ l. joined_from n separator (map f l))
-    (drop-all items n h) ∙ nothing_left n separator in
-    sym (append-nil text) ∙ (ap (λ l. text ++ l) (sym gone) ∙ w.whole)
 
 -- lines, one after the other
 pub record Listing {A : Type 0} (f : A → List ℕ) (items : List A) (start text : List ℕ) (n : ℕ) : Type 0 where
@@ -157,9 +136,3 @@ listing_next f items start text next n x e q w =
       whole = ap (λ l. l ++ tail) q ∙ (append_assoc text (f x) tail
           ∙ (ap (λ l. text ++ concat (map f l)) (sym (drop-at items n x e)) ∙ w.whole));
     })
-
-pub listing_last : {A : Type 0} (f : A → List ℕ) (items : List A) (start text : List ℕ) (n : ℕ) → length items ≤ n
-    → Listing f items start text n → text ≡ start ++ concat (map f items)
-listing_last f items start text n h w =
-    let gone : concat (map f (drop n items)) ≡ [] = ap (λ l. concat (map f l)) (drop-all items n h) in
-    sym (append-nil text) ∙ (ap (λ l. text ++ l) (sym gone) ∙ w.whole)

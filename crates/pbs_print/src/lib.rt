@@ -1,7 +1,8 @@
-//! Writes the canonical text of a specification.
+//! Writes the canonical text of a specification, which reads back.
 #![tactic(auto)]
 
 mod exprs;
+pub mod laws;
 mod lines;
 mod pieces;
 mod terms;

@@ -1,18 +1,17 @@
 -- The code gives the answer of the definition.
-use Rattle.std.proofs.Common.{◌≡◌, ℕ, ◌<◌, ◌≤◌, List, length, Result, Ok, Err, refl, sym, ap, subst, ◌∙◌}
+use Rattle.std.proofs.Common.{◌≡◌, ℕ, List, length, Result, Ok, Err, refl, sym, ap, subst, ◌∙◌}
 use Rattle.std.specs.Prelude.{IfOk, IfErr}
 use Rattle.pbs_base.specs.declared.refusal.Refusal.{Refusal}
 use Rattle.pbs_ast.specs.declared.syntax.Spec.{Spec}
 use Rattle.pbs_text.specs.declared.fail.ReadSpec.{ReadSpec}
 use Rattle.pbs_text.specs.declared.fail.ReadSpec.TheVariants.{Memory, Refused}
 use Rattle.pbs_text.specs.declared.token.Token.{Token}
-use Rattle.pbs_text.specs.Bare.{bare}
+use Rattle.pbs_ast.specs.Bare.{bare}
 use Rattle.pbs_text.specs.Lexing.{tokens}
 use Rattle.pbs_text.specs.Refusals.{Says}
 use Rattle.pbs_lex.specs.Stops.{StopsLexing}
 use Rattle.pbs_read.specs.inner.TextDescent.{ReadsText, StopsText}
-use Rattle.pbs_text.specs.Answers.{IsShort, StandsFor, IsRefusedBy, ByToken, ByGrammar, Refuses}
-use Rattle.pbs_text.specs.Answers.{IsThe}
+use Rattle.pbs_text.specs.Answers.{IsShort, StandsFor, IsRefusedBy, ByToken, ByGrammar, Refuses, IsThe}
 use Rattle.pbs_grammar.proofs.Exact.{reading_says}
 use Rattle.pbs_grammar.proofs.OneAnswer.{one_spec, never_both, one_refusal}
 

@@ -9,19 +9,18 @@ use Rattle.pbs_text.specs.declared.fail.ReadSpec.TheVariants.{Memory, Refused}
 use Rattle.pbs_text.specs.Trees.{width_value, word_at, declared, input_of, inputs_of, names_of}
 use Rattle.pbs_text.specs.places.Reading.{stepped, bind, read}
 use Rattle.pbs_descent.specs.Descent.{BeginsWith, NoFront, front_refusal, behind_expr, ReadsExpr, StopsExpr}
-use Rattle.pbs_read.specs.inner.DeclDescent.{TakesBit, ReadsWidth, StopsWidth, ReadsInput}
-use Rattle.pbs_read.specs.inner.DeclDescent.{ReadsSet, ReadsSets}
-use Rattle.pbs_read.specs.inner.DeclDescent.{ReadsLevelHead, ReadsLevel, ReadsProd}
-use Rattle.pbs_read.specs.inner.DeclDescent.{ReadsRightSide, StopsRightSide, StopsProd}
+use Rattle.pbs_read.specs.inner.DeclDescent.{TakesBit, ReadsWidth, StopsWidth, ReadsInput, ReadsSet, ReadsSets}
+use Rattle.pbs_read.specs.inner.DeclDescent.{ReadsLevelHead, ReadsLevel, ReadsProd, ReadsRightSide, StopsRightSide}
+use Rattle.pbs_read.specs.inner.DeclDescent.{StopsProd}
 use Rattle.pbs_text.specs.Grammar.{token, Second, bit_kind, Width, OneBit, TwoBits, MoreBits, width_kind, ExprPhrase}
-use Rattle.pbs_text.specs.Grammar.{OneSeq, MoreSeqs, OneItem, MoreItems, OneWire, Bus, InputsPhrase}
-use Rattle.pbs_text.specs.Grammar.{OneInput, MoreInputs, NamesPhrase, OneName, MoreNames, SetsPhrase}
-use Rattle.pbs_text.specs.Grammar.{MoreSets, ProdDecl, OfVersion}
-use Rattle.pbs_text.specs.Holes.{Front, OfProd, OfMain}
-use Rattle.pbs_text.specs.places.Places.{InputHole, FirstInput, NextInput, FirstName, LevelFront}
-use Rattle.pbs_text.specs.places.Places.{Place, InDecls, WantsInput, AfterInputName, WantsWidth, AfterInput}
-use Rattle.pbs_text.specs.places.Places.{WantsName, AfterName, AfterLevelEquals, AfterLevelBit}
-use Rattle.pbs_text.specs.places.Places.{AfterSetColon, AfterSetBit, AfterProdName, AfterMain, Whole, before}
+use Rattle.pbs_text.specs.Grammar.{OneSeq, MoreSeqs, OneItem, MoreItems, OneWire, Bus, InputsPhrase, OneInput}
+use Rattle.pbs_text.specs.Grammar.{MoreInputs, NamesPhrase, OneName, MoreNames, SetsPhrase, MoreSets, ProdDecl}
+use Rattle.pbs_text.specs.Grammar.{OfVersion}
+use Rattle.pbs_text.specs.places.Holes.{Front, OfProd, OfMain}
+use Rattle.pbs_text.specs.places.Places.{InputHole, FirstInput, NextInput, FirstName, LevelFront, Place, InDecls}
+use Rattle.pbs_text.specs.places.Places.{WantsInput, AfterInputName, WantsWidth, AfterInput, WantsName, AfterName}
+use Rattle.pbs_text.specs.places.Places.{AfterLevelEquals, AfterLevelBit, AfterSetColon, AfterSetBit, AfterProdName}
+use Rattle.pbs_text.specs.places.Places.{AfterMain, Whole, before}
 use Rattle.pbs_text.specs.places.Steps.{bit_of, width_of, with_next, level_front, whole_spec, step}
 use Rattle.pbs_ast.specs.declared.syntax.Decl.{Decl}
 use Rattle.pbs_ast.specs.declared.syntax.Set.{Set}
@@ -33,7 +32,7 @@ use Rattle.pbs_text.specs.declared.token.TokenKind.{TokenKind}
 use Rattle.pbs_text.specs.declared.token.TokenKind.TheVariants.{Name, Zero, One, Two, Digit, Semicolon, Comma, Equals}
 use Rattle.pbs_text.specs.declared.token.TokenKind.TheVariants.{OpenCurly, CloseCurly, Bar, Colon}
 use Rattle.pbs_descent.proofs.TermExits.{none_second}
-use Rattle.pbs_descent.proofs.ExprExits.{unclosed}
+use Rattle.pbs_descent.proofs.ExprExits.{unclosed, second_here}
 
 -- the loop over the inputs
 abbrev behind_inputs : {two : Bool} → InputsPhrase two → Front two → Span → Place
@@ -113,13 +112,9 @@ names_more bytes end old rest after more before now next c n x e g v f s =
 
 -- ---- an input
 
-second_at : (two : Bool) → two ≡ true → Second two
-second_at false e = absurd (false≢true e)
-second_at true e = tt
-
 widens : (two : Bool) (end : ℕ) (n c : Span) (h : InputHole two) (z : List Token) (e : two ≡ true)
-    → read end (AfterInputName n h) (token Colon c ∷ z) ≡ read end (WantsWidth (second_at two e) n c h) z
-unfolding second_at
+    → read end (AfterInputName n h) (token Colon c ∷ z) ≡ read end (WantsWidth (second_here two e) n c h) z
+unfolding second_here
 widens false end n c h z e = absurd (false≢true e)
 widens true end n c h z e = refl
 
@@ -148,10 +143,10 @@ width_read two end old behind new c t number e f g is =
     let w = is_width t.kind number is in
     let both : behind ≡ token (width_kind w.width) t.span ∷ new = g ∙ ap (λ k. token k t.span ∷ new) (sym w.kind_is) in
     record {
-      phrase = λ at. Bus (second_at two e) at c w.width t.span;
+      phrase = λ at. Bus (second_here two e) at c w.width t.span;
       value_is = λ bytes at. ap (declared bytes at) w.value_is;
       goes_on = λ at h. rw f (widens two end at c h behind e ∙ rw both
-          (takes_width end (second_at two e) at c w.width t.span h new));
+          (takes_width end (second_here two e) at c w.width t.span h new));
       shorter = let i = ap length f in let j = ap length g in omega arith;
     }
 
@@ -192,7 +187,7 @@ pub width_stops : (two : Bool) (end : ℕ) (old behind : List Token) (c : Span) 
     → old ≡ token Colon c ∷ behind → NoFront width_of behind → StopsWidth two end old
     (Refused (front_refusal end behind))
 width_stops two end old behind c e f none = λ at h. rw f (widens two end at c h behind e
-    ∙ no_width end (second_at two e) at c h behind none)
+    ∙ no_width end (second_here two e) at c h behind none)
 
 pub input_read : (two : Bool) (bytes : List ℕ) (end : ℕ) (old rest new : List Token) (n : Span) (word : List ℕ)
     (width : ℕ) → old ≡ token Name n ∷ rest → word ≡ word_at bytes n → ReadsWidth two end rest width new

@@ -1,22 +1,22 @@
 -- Each exit of the functions that read whole texts, over plain variables.
-use Rattle.std.proofs.Common.{◌≡◌, ℕ, ◌<◌, List, [], ◌∷◌, ◌++◌, length, map, Bool, Some, None, Err, refl, sym, ap}
-use Rattle.std.proofs.Common.{ap₂, ◌∙◌, false, true, arith}
+use Rattle.std.proofs.Common.{◌≡◌, ℕ, ◌<◌, List, [], ◌∷◌, ◌++◌, length, map, Bool, Some, None, Err, refl, sym, ap, ap₂}
+use Rattle.std.proofs.Common.{◌∙◌, false, true, arith}
 use Rattle.std.specs.Prelude.{option_map}
 use Rattle.pbs_ast.specs.declared.syntax.Expr.{Expr}
 use Rattle.pbs_text.specs.declared.fail.ReadSpec.{ReadSpec}
 use Rattle.pbs_text.specs.declared.fail.ReadSpec.TheVariants.{Memory, Refused}
 use Rattle.pbs_text.specs.places.Reading.{stepped, bind, read}
 use Rattle.pbs_descent.specs.Descent.{BeginsWith, NoFront, front_refusal}
-use Rattle.pbs_text.specs.Bare.{bare_prod}
+use Rattle.pbs_ast.specs.Bare.{bare_prod}
 use Rattle.pbs_text.specs.Trees.{Declared, with_decl}
-use Rattle.pbs_read.specs.inner.DeclDescent.{ReadsInputs, ReadsNames}
-use Rattle.pbs_read.specs.inner.DeclDescent.{ReadsLevel, ReadsRightSide, StopsRightSide, ReadsProd}
-use Rattle.pbs_read.specs.inner.TextDescent.{bare_lists, made_spec, decl_word, decl_kind, behind_word}
-use Rattle.pbs_read.specs.inner.TextDescent.{ReadsVersion, StopsVersion, TakesDeclWord, ReadsDecl, StopsDecl}
-use Rattle.pbs_read.specs.inner.TextDescent.{ReadsDecls, StopsDecls, ReadsMain, StopsMain, ReadsText}
-use Rattle.pbs_text.specs.Grammar.{token, version_kind, InputDecl}
-use Rattle.pbs_text.specs.Grammar.{ActionDecl, LevelDecl, ProdDecl, DeclsPhrase, MoreDecls, OfVersion}
-use Rattle.pbs_text.specs.Holes.{Front}
+use Rattle.pbs_read.specs.inner.DeclDescent.{ReadsInputs, ReadsNames, ReadsLevel, ReadsRightSide, StopsRightSide}
+use Rattle.pbs_read.specs.inner.DeclDescent.{ReadsProd}
+use Rattle.pbs_read.specs.inner.TextDescent.{bare_lists, made_spec, decl_word, decl_kind, behind_word, ReadsVersion}
+use Rattle.pbs_read.specs.inner.TextDescent.{StopsVersion, TakesDeclWord, ReadsDecl, StopsDecl, ReadsDecls, StopsDecls}
+use Rattle.pbs_read.specs.inner.TextDescent.{ReadsMain, StopsMain, ReadsText}
+use Rattle.pbs_text.specs.Grammar.{token, version_kind, InputDecl, ActionDecl, LevelDecl, ProdDecl, DeclsPhrase}
+use Rattle.pbs_text.specs.Grammar.{MoreDecls, OfVersion}
+use Rattle.pbs_text.specs.places.Holes.{Front}
 use Rattle.pbs_text.specs.places.Places.{AfterSpec, AfterVersion, InDecls}
 use Rattle.pbs_text.specs.places.Steps.{version_of, whole_spec, first_front, step}
 use Rattle.std.proofs.lemmas.List.{map-append}

@@ -4,7 +4,7 @@ ghost use Rattle.std.specs.Prelude.{IfErr, MatchOption, option_map};
 ghost use Rattle.pbs_base.specs.declared.refusal.Refusal.{Refusal};
 ghost use Rattle.pbs_ast.specs.declared.syntax.Spec.{Spec};
 ghost use Rattle.pbs_text.specs.declared.fail.ReadSpec.TheVariants as answers;
-ghost use Rattle.pbs_text.specs.Bare.{bare, bare_expr};
+ghost use Rattle.pbs_ast.specs.Bare.{bare, bare_expr};
 ghost use Rattle.pbs_text.specs.Grammar.{TextPhrase};
 ghost use Rattle.pbs_text.specs.Refusals.{refusal};
 ghost use Rattle.pbs_text.specs.places.Steps.{version_of};

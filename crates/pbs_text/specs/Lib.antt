@@ -1,8 +1,7 @@
 pub mod Lexing
 pub mod Grammar
 pub mod Trees
-pub mod Bare
-pub mod Holes
+pub mod Nesting
 pub mod Refusals
 pub mod Answers
 pub mod places

@@ -1,12 +1,11 @@
 -- The refusals by rules 3 and 4, as sentences about the texts of the grammar.
-use Rattle.std.specs.Prelude.{ℕ, ◌≤◌, Bool, true, false, List, [], ◌∷◌, ◌++◌, ◌≡◌, IsTrue, Result, Ok, Err}
+use Rattle.std.specs.Prelude.{ℕ, ◌≤◌, Bool, true, false, List, [], ◌∷◌, ◌++◌, length, ◌≡◌, IsTrue, Result, Ok, Err}
 use Rattle.pbs_base.specs.declared.refusal.Refusal.{Refusal}
 use Rattle.pbs_text.specs.declared.token.Token.{Token}
 use Rattle.pbs_text.specs.declared.token.TokenKind.{TokenKind}
 use Rattle.pbs_text.specs.declared.token.TokenKind.TheVariants.{OpenRound, Tilde}
 use Rattle.pbs_text.specs.Grammar.{TextPhrase, text_tokens, IsText, Begins}
-use Rattle.pbs_text.specs.Holes.{ItemHole, GroupHole, UnitHole, before_item, before_group, before_unit, item_nesting}
-use Rattle.pbs_text.specs.Holes.{group_nesting, unit_nesting}
+use Rattle.pbs_text.specs.Nesting.{opened}
 use Rattle.pbs_base.specs.declared.refusal.Span.{Span}
 use Rattle.pbs_base.specs.declared.refusal.Subject.TheVariants.{Spec}
 
@@ -26,30 +25,11 @@ opens Tilde = true
 opens OpenRound = true
 opens _ = false
 
--- a place where a `(` or a `~` may stand, with what stands before it
-pub data Opening : Type 0 where
-  ForItem : {two : Bool} (h : ItemHole two) → Opening
-  ForGroup : {two : Bool} (g : GroupHole two) → Opening
-  ForUnit : {two : Bool} (h : UnitHole two) → Opening
-
-abbrev pub before_opening : Opening → List Token
-before_opening (ForItem h) = before_item h
-before_opening (ForGroup g) = before_group g
-before_opening (ForUnit h) = before_unit h
-
--- the `(` that are open there and the `~` whose operand hasn't ended
-abbrev pub nesting : Opening → ℕ
-nesting (ForItem h) = item_nesting h
-nesting (ForGroup g) = group_nesting g
-nesting (ForUnit h) = unit_nesting h
-
--- some text does, and the token is a `(` or a `~` with which the nesting becomes 65
+-- some text does, and the token is a `(` or a `~` before which 64 are open
 pub record IsTooDeep (taken : List Token) (t : Token) : Type 0 where
   pub begins : Begins (taken ++ t ∷ [])
   pub opens_one : IsTrue (opens t.kind)
-  pub opening : Opening
-  pub taken_is : before_opening opening ≡ taken
-  pub deep : 64 ≤ nesting opening
+  pub deep : 64 ≤ length (opened taken)
 
 -- no token is of either kind
 abbrev pub NoneStops : List Token → Type 0

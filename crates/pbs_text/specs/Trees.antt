@@ -13,7 +13,7 @@ use Rattle.pbs_ast.specs.declared.syntax.Prod.{Prod}
 use Rattle.pbs_ast.specs.declared.syntax.Spec.{Spec}
 use Rattle.pbs_text.specs.declared.token.Operator.{Operator}
 use Rattle.pbs_text.specs.declared.token.Operator.TheVariants.{StarOp, PlusOp, OptOp}
-use Rattle.pbs_text.specs.Bare.{no_place, expr}
+use Rattle.pbs_ast.specs.Bare.{no_place, expr}
 use Rattle.pbs_text.specs.Grammar.{Numeral, ZeroNumeral, OneNumeral, TwoNumeral, DigitNumeral, LongNumeral, Width}
 use Rattle.pbs_text.specs.Grammar.{OneBit, TwoBits, MoreBits, UnitPhrase, Negated, Bracketed, Named, Bit, Compared}
 use Rattle.pbs_text.specs.Grammar.{AllPhrase, OneUnit, MoreUnits, TermPhrase, OneAll, MoreAlls, ExprPhrase, OneSeq}

@@ -1,3 +1,4 @@
+pub mod Holes
 pub mod Places
 pub mod Steps
 pub mod Reading

@@ -5,8 +5,8 @@ use Rattle.std.specs.Global.{Vec}
 use Rattle.pbs_base.specs.declared.refusal.Span.{Span}
 use Rattle.pbs_ast.specs.declared.syntax.Expr.{Expr}
 use Rattle.pbs_ast.specs.declared.syntax.Prod.{Prod}
-use Rattle.pbs_rules.specs.Naming.{index_of, prod_names}
-use Rattle.pbs_rules.specs.Forms.{Form, Name, form}
+use Rattle.pbs_names.specs.Naming.{index_of, prod_names}
+use Rattle.pbs_names.specs.Forms.{Form, Name, form}
 use Rattle.pbs_check.specs.declared.graph.Graph.{Graph}
 use Rattle.pbs_check.specs.declared.graph.Link.{Link}
 use Rattle.pbs_check.specs.inner.Walking.{inside}

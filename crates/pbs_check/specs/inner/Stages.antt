@@ -7,8 +7,8 @@ use Rattle.pbs_base.specs.declared.refusal.Subject.TheVariants as Subject
 use Rattle.pbs_ast.specs.declared.syntax.Decl.{Decl}
 use Rattle.pbs_ast.specs.declared.syntax.Level.{Level}
 use Rattle.pbs_ast.specs.declared.syntax.Spec.{Spec}
-use Rattle.pbs_rules.specs.Naming.{inputs_of, input_names, action_names, prod_names}
-use Rattle.pbs_rules.specs.Numbers.{IsNumbering}
+use Rattle.pbs_names.specs.Naming.{inputs_of, input_names, action_names, prod_names}
+use Rattle.pbs_names.specs.Numbers.{IsNumbering}
 use Rattle.pbs_check.specs.declared.failure.Check.{Check}
 use Rattle.pbs_check.specs.declared.failure.Check.TheVariants as answers
 use Rattle.pbs_check.specs.declared.named.Named.{Named}

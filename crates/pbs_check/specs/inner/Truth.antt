@@ -1,18 +1,16 @@
--- Facts that are true of what they are known of, and productions that are no part of a recursion.
+-- Facts that are true of what they are known of.
 use Rattle.std.specs.Prelude.{◌≡◌, ◌⊎◌, ℕ, Bool, true, false, not, List, Option, Some, None, Contains}
 use Rattle.std.specs.List.{count_by}
 use Rattle.std.specs.Option.{is_some}
-use Rattle.pbs_base.specs.declared.refusal.Span.{Span}
 use Rattle.pbs_ast.specs.declared.syntax.Expr.{Expr}
 use Rattle.pbs_ast.specs.declared.syntax.Prod.{Prod}
 use Rattle.pbs_ast.specs.declared.syntax.Spec.{Spec}
-use Rattle.pbs_rules.specs.Naming.{body_of}
-use Rattle.pbs_rules.specs.Forms.{Form, Name, form, Stands}
-use Rattle.pbs_rules.specs.Reach.{HasTerminal, HasAction, HasScope, MayBeEmpty}
+use Rattle.pbs_names.specs.Naming.{body_of}
+use Rattle.pbs_names.specs.Forms.{Form, Name, form, Stands}
+use Rattle.pbs_names.specs.Reach.{HasTerminal, HasAction, HasScope, MayBeEmpty}
 use Rattle.pbs_check.specs.declared.facts.Facts.{Facts}
 use Rattle.pbs_check.specs.declared.uses.Tables.{Tables}
 use Rattle.pbs_check.specs.inner.Facts.{known_of, expr_facts}
-use Rattle.pbs_check.specs.Recursion.{UsesAt}
 
 -- the test says whether the fact holds
 abbrev pub Decided : Bool → Type 0 → Type 0
@@ -31,18 +29,13 @@ pub record FactsAre (prods : List Prod) (f : Form) (facts : Facts) : Type 0 wher
 abbrev pub Knows : List Prod → (List ℕ → Option Facts) → Type 0
 Knows prods known = (name : List ℕ) (f : Facts) → known name ≡ Some f → FactsAre prods (Name name) f
 
--- all that the production of that name uses is settled before it
-pub data IsSettled (prods : List Prod) : List ℕ → Type 0 where
-  Settled : {name : List ℕ} {body : Expr} → body_of prods name ≡ Some body
-      → ((via : List ℕ) (span : Span) → UsesAt body via span → IsSettled prods via) → IsSettled prods name
-
 -- each production is the first of its name
 pub record AreFirst (prods : List Prod) : Type 0 where
   pub first : (p : Prod) → Contains prods p → body_of prods p.name ≡ Some p.body
 
+-- what is known of productions is true
 pub record Settles (prods : List Prod) (known : List ℕ → Option Facts) : Type 0 where
   pub knows : Knows prods known
-  pub settled : (name : List ℕ) (f : Facts) → known name ≡ Some f → IsSettled prods name
 
 -- the facts of every expression of the specification are known and true
 pub record IsKnown (spec : Spec) (tables : Tables) : Type 0 where

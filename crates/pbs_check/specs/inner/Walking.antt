@@ -12,9 +12,9 @@ use Rattle.pbs_ast.specs.declared.syntax.Level.{Level}
 use Rattle.pbs_ast.specs.declared.syntax.SpecTerm as terms
 use Rattle.pbs_ast.specs.declared.syntax.Kind as kind
 use Rattle.pbs_ast.specs.declared.syntax.Kind.{Row_of-Expr, end_of-Expr, more_of-Expr}
-use Rattle.pbs_rules.specs.declared.index.Numbers.{Numbers}
-use Rattle.pbs_rules.specs.Forms.{Form, Terminal, Action, Star, Plus, Hold, Scope, Name, Repeat, form, expr_of}
-use Rattle.pbs_rules.specs.Numbers.{number_in}
+use Rattle.pbs_names.specs.declared.index.Numbers.{Numbers}
+use Rattle.pbs_names.specs.Forms.{Form, Terminal, Action, Star, Plus, Hold, Scope, Name, Repeat, form, expr_of}
+use Rattle.pbs_names.specs.Numbers.{number_in}
 use Rattle.pbs_check.specs.declared.uses.Wanted.{Wanted}
 use Rattle.pbs_check.specs.declared.uses.Wanted.TheVariants as wanted
 use Rattle.pbs_check.specs.declared.uses.Look.{Look}

@@ -1,7 +1,7 @@
 -- The controller of a text.
 use Rattle.std.specs.Prelude.{List, ℕ, Result, Ok, Err}
 use Rattle.pbs_ast.specs.declared.syntax.Spec.{Spec}
-use Rattle.pbs_rules.specs.Naming.{input_names, action_names}
+use Rattle.pbs_names.specs.Naming.{input_names, action_names}
 use Rattle.pbs_expand.specs.Expanded.{expanded}
 use Rattle.net_core.specs.Circuits.{Circuit}
 use Rattle.pbs_controller.specs.Controllers.{IsController}

@@ -4,7 +4,7 @@ use Rattle.std.specs.List.{list_all}
 use Rattle.pbs_base.specs.Words.{AreDifferent}
 use Rattle.pbs_ast.specs.declared.syntax.Spec.{Spec}
 use Rattle.pbs_text.specs.Lexing.{is_letter, is_word_byte}
-use Rattle.pbs_rules.specs.Naming.{input_names, action_names}
+use Rattle.pbs_names.specs.Naming.{input_names, action_names}
 
 abbrev pub begins_word : List ℕ → Bool
 begins_word [] = false

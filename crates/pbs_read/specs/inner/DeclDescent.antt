@@ -12,7 +12,7 @@ use Rattle.pbs_text.specs.declared.token.Token.{Token}
 use Rattle.pbs_text.specs.Grammar.{token, bit_kind, InputPhrase, InputsPhrase, NamesPhrase, SetsPhrase, NoSets}
 use Rattle.pbs_text.specs.Grammar.{MoreSets, InputDecl, ActionDecl, LevelDecl, ProdDecl, ExprPhrase, OfVersion}
 use Rattle.pbs_text.specs.Trees.{declared, input_of, inputs_of, names_of, sets_of, expr_tree, word_at}
-use Rattle.pbs_text.specs.Holes.{Front}
+use Rattle.pbs_text.specs.places.Holes.{Front}
 use Rattle.pbs_text.specs.places.Places.{InputHole, FirstInput, FirstName, LevelFront, InDecls, WantsInput}
 use Rattle.pbs_text.specs.places.Places.{AfterInputName, AfterInput, WantsName, AfterLevel, InLevel, AfterSetName}
 use Rattle.pbs_text.specs.places.Places.{AfterProd, AfterProdName, AfterMain, Whole}

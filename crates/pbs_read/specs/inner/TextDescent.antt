@@ -11,11 +11,11 @@ use Rattle.pbs_read.specs.declared.spec.DeclWord.TheVariants.{OfInput, OfAction,
 use Rattle.pbs_text.specs.declared.token.Token.{Token}
 use Rattle.pbs_text.specs.declared.token.TokenKind.{TokenKind}
 use Rattle.pbs_text.specs.declared.token.TokenKind.TheVariants.{InputWord, ActionWord, LevelWord, ProdWord}
-use Rattle.pbs_text.specs.Bare.{bare_prod}
+use Rattle.pbs_ast.specs.Bare.{bare_prod}
 use Rattle.pbs_text.specs.Grammar.{token, DeclPhrase, DeclsPhrase, ExprPhrase, TextPhrase, OfVersion}
 use Rattle.pbs_text.specs.Trees.{Declared, nothing_declared, with_decl, declared_by, expr_tree, version_number}
 use Rattle.pbs_text.specs.Trees.{text_spec}
-use Rattle.pbs_text.specs.Holes.{Front}
+use Rattle.pbs_text.specs.places.Holes.{Front}
 use Rattle.pbs_text.specs.places.Places.{FirstInput, FirstName, Place, Start, InDecls, WantsInput, WantsName}
 use Rattle.pbs_text.specs.places.Places.{AfterLevel, AfterProd}
 use Rattle.pbs_text.specs.places.Steps.{with_next, first_front, whole_spec}

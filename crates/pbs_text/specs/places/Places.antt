@@ -3,16 +3,15 @@ use Rattle.std.specs.Prelude.{Bool, List, [], ◌∷◌, ◌++◌}
 use Rattle.pbs_base.specs.declared.refusal.Span.{Span}
 use Rattle.pbs_text.specs.declared.token.Token.{Token}
 use Rattle.pbs_text.specs.declared.token.TokenKind.TheVariants.{Name, SpecWord, InputWord, ActionWord, LevelWord}
-use Rattle.pbs_text.specs.declared.token.TokenKind.TheVariants.{ProdWord, MainWord, HoldWord, TryWord, AbortWord}
-use Rattle.pbs_text.specs.declared.token.TokenKind.TheVariants.{Comma, Equals, OpenCurly, OpenRound, OpenSquare}
-use Rattle.pbs_text.specs.declared.token.TokenKind.TheVariants.{CloseSquare, Colon}
-use Rattle.pbs_text.specs.Grammar.{token, Second, bit_kind, version_kind, Numeral, numeral_kind, AllPhrase}
-use Rattle.pbs_text.specs.Grammar.{TermPhrase, ItemPhrase, PrimPhrase, GroupPhrase, InputPhrase, InputsPhrase}
-use Rattle.pbs_text.specs.Grammar.{NamesPhrase, SetsPhrase, TextPhrase, all_tokens, term_tokens, item_tokens}
-use Rattle.pbs_text.specs.Grammar.{prim_tokens, group_tokens, input_tokens, inputs_tokens, names_tokens, sets_tokens}
-use Rattle.pbs_text.specs.Grammar.{text_tokens}
-use Rattle.pbs_text.specs.Holes.{Front, ItemHole, GroupHole, AllHole, UnitHole, front_tokens, before_item}
-use Rattle.pbs_text.specs.Holes.{before_group, before_all, before_unit}
+use Rattle.pbs_text.specs.declared.token.TokenKind.TheVariants.{ProdWord, MainWord, HoldWord, TryWord, AbortWord, Comma}
+use Rattle.pbs_text.specs.declared.token.TokenKind.TheVariants.{Equals, OpenCurly, OpenRound, OpenSquare, CloseSquare}
+use Rattle.pbs_text.specs.declared.token.TokenKind.TheVariants.{Colon}
+use Rattle.pbs_text.specs.Grammar.{token, Second, bit_kind, version_kind, Numeral, numeral_kind, AllPhrase, TermPhrase}
+use Rattle.pbs_text.specs.Grammar.{ItemPhrase, PrimPhrase, GroupPhrase, InputPhrase, InputsPhrase, NamesPhrase}
+use Rattle.pbs_text.specs.Grammar.{SetsPhrase, TextPhrase, all_tokens, term_tokens, item_tokens, prim_tokens}
+use Rattle.pbs_text.specs.Grammar.{group_tokens, input_tokens, inputs_tokens, names_tokens, sets_tokens, text_tokens}
+use Rattle.pbs_text.specs.places.Holes.{Front, ItemHole, GroupHole, AllHole, UnitHole, front_tokens, before_item}
+use Rattle.pbs_text.specs.places.Holes.{before_group, before_all, before_unit}
 
 -- ---- where an input, a name or a level's part is wanted
 

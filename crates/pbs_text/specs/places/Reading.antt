@@ -7,7 +7,7 @@ use Rattle.pbs_text.specs.declared.token.Token.{Token}
 use Rattle.pbs_text.specs.declared.token.TokenKind.{TokenKind}
 use Rattle.pbs_text.specs.declared.token.TokenKind.TheVariants.{OpenRound, Tilde}
 use Rattle.pbs_text.specs.Grammar.{TextPhrase}
-use Rattle.pbs_text.specs.Holes.{item_nesting, group_nesting, unit_nesting}
+use Rattle.pbs_text.specs.places.Holes.{item_nesting, group_nesting, unit_nesting}
 use Rattle.pbs_text.specs.places.Places.{Place, WantsItem, WantsGroup, InGroup, WantsUnit, Whole}
 use Rattle.pbs_text.specs.places.Steps.{step}
 use Rattle.pbs_text.specs.Refusals.{refusal, point}

@@ -15,22 +15,21 @@ use Rattle.pbs_text.specs.Grammar.{Width, OneBit, TwoBits, MoreBits, UnitPhrase,
 use Rattle.pbs_text.specs.Grammar.{Compared, AllPhrase, OneUnit, MoreUnits, TermPhrase, OneAll, MoreAlls, ExprPhrase}
 use Rattle.pbs_text.specs.Grammar.{OneSeq, MoreSeqs, SeqPhrase, OneItem, MoreItems, ItemPhrase, Plain, Repeated}
 use Rattle.pbs_text.specs.Grammar.{Counted, PrimPhrase, Terminal, Action, Call, Grouped, Hold, Try, GroupPhrase}
-use Rattle.pbs_text.specs.Grammar.{EmptyGroup, FullGroup, InputPhrase, OneWire, Bus, InputsPhrase, OneInput}
-use Rattle.pbs_text.specs.Grammar.{MoreInputs, OneName, MoreNames, SetsPhrase, NoSets, MoreSets, DeclPhrase}
-use Rattle.pbs_text.specs.Grammar.{InputDecl, ActionDecl, LevelDecl, ProdDecl, NoDecls, MoreDecls, SpecPhrase}
-use Rattle.pbs_text.specs.Grammar.{OfVersion}
-use Rattle.pbs_text.specs.Holes.{Front, ExprHole, OfGroup, OfProd, OfMain, SeqHole, FirstSeq, NextSeq, ItemHole}
-use Rattle.pbs_text.specs.Holes.{FirstItem, NextItem, GroupHole, AsPrim, OfHold, OfBody, OfTrap, OfAfter, TermHole}
-use Rattle.pbs_text.specs.Holes.{OfTerminal, OfGuard, InRound, AllHole, FirstAll, NextAll, UnitHole, UnderNot}
-use Rattle.pbs_text.specs.Holes.{FirstUnit, NextUnit}
+use Rattle.pbs_text.specs.Grammar.{EmptyGroup, FullGroup, InputPhrase, OneWire, Bus, InputsPhrase, OneInput, MoreInputs}
+use Rattle.pbs_text.specs.Grammar.{OneName, MoreNames, SetsPhrase, NoSets, MoreSets, DeclPhrase, InputDecl, ActionDecl}
+use Rattle.pbs_text.specs.Grammar.{LevelDecl, ProdDecl, NoDecls, MoreDecls, SpecPhrase, OfVersion}
+use Rattle.pbs_text.specs.places.Holes.{Front, ExprHole, OfGroup, OfProd, OfMain, SeqHole, FirstSeq, NextSeq, ItemHole}
+use Rattle.pbs_text.specs.places.Holes.{FirstItem, NextItem, GroupHole, AsPrim, OfHold, OfBody, OfTrap, OfAfter}
+use Rattle.pbs_text.specs.places.Holes.{TermHole, OfTerminal, OfGuard, InRound, AllHole, FirstAll, NextAll, UnitHole}
+use Rattle.pbs_text.specs.places.Holes.{UnderNot, FirstUnit, NextUnit}
 use Rattle.pbs_text.specs.places.Places.{InputHole, FirstInput, NextInput, NameHole, FirstName, NextName, LevelFront}
 use Rattle.pbs_text.specs.places.Places.{Place, Start, AfterSpec, AfterVersion, InDecls, WantsInput, AfterInputName}
 use Rattle.pbs_text.specs.places.Places.{WantsWidth, AfterInput, WantsName, AfterName, AfterLevel, AfterLevelName}
 use Rattle.pbs_text.specs.places.Places.{AfterLevelEquals, AfterLevelBit, InLevel, AfterSetName, AfterSetColon}
 use Rattle.pbs_text.specs.places.Places.{AfterSetBit, AfterProd, AfterProdName, AfterMain, WantsItem, WantsGroup}
-use Rattle.pbs_text.specs.places.Places.{InGroup, InCurly, AfterActionName, AfterHold, AfterGuard, AfterBody}
-use Rattle.pbs_text.specs.places.Places.{AfterTrap, AfterPrim, WantsLeast, AfterLeast, WantsMost, AfterMost}
-use Rattle.pbs_text.specs.places.Places.{AfterItem, WantsUnit, AfterUnitName, WantsNumber, AfterUnit, Whole}
+use Rattle.pbs_text.specs.places.Places.{InGroup, InCurly, AfterActionName, AfterHold, AfterGuard, AfterBody, AfterTrap}
+use Rattle.pbs_text.specs.places.Places.{AfterPrim, WantsLeast, AfterLeast, WantsMost, AfterMost, AfterItem, WantsUnit}
+use Rattle.pbs_text.specs.places.Places.{AfterUnitName, WantsNumber, AfterUnit, Whole}
 
 -- ---- kinds of tokens that belong together
 

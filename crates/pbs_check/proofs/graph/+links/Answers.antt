@@ -1,6 +1,6 @@
 use Rattle.std.proofs.Common.{◌++◌, ap, sym, ◌∙◌}
-use Rattle.pbs_rules.specs.Numbers.{number_in}
-use Rattle.pbs_rules.specs.Forms.{form_of}
+use Rattle.pbs_names.specs.Numbers.{number_in}
+use Rattle.pbs_names.specs.Forms.{form_of}
 use Rattle.pbs_check.specs.inner.Links.{own_links, links_in}
 use Rattle.pbs_check.specs.inner.Walking.{inside, below_kind, inside_all}
 use Rattle.pbs_check.proofs.GraphLemmas.{on_ok, links_step, seq_links, choice_links, three_links}

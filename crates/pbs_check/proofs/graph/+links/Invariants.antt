@@ -1,5 +1,5 @@
 use Rattle.std.proofs.Common.{◌≡◌, ◌++◌, drop}
-use Rattle.pbs_rules.specs.Numbers.{number_in}
+use Rattle.pbs_names.specs.Numbers.{number_in}
 use Rattle.pbs_check.specs.inner.Links.{links_in}
 use Rattle.pbs_check.specs.inner.Walking.{inside_all}
 use Rattle.pbs_check.proofs.graph.+links.Given as goal

@@ -1,6 +1,6 @@
 use Rattle.std.proofs.Common.{◌≡◌, ◌++◌, drop, map}
 use Rattle.std.specs.Global.{Vec}
-use Rattle.pbs_rules.specs.Numbers.{number_in}
+use Rattle.pbs_names.specs.Numbers.{number_in}
 use Rattle.pbs_check.specs.declared.graph.Link.{Link}
 use Rattle.pbs_check.specs.inner.Links.{links_of}
 use Rattle.pbs_check.proofs.graph.uses_of.Given as goal

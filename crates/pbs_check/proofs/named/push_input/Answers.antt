@@ -1,6 +1,6 @@
 use Rattle.std.proofs.Common.{◌+◌, ◌-◌, ◌++◌, [], ◌∷◌, map, sym, ap, ◌∙◌}
-use Rattle.pbs_rules.specs.Naming.{bit_name, bit_names}
-use Rattle.pbs_rules.proofs.NameLemmas.{bits_step}
+use Rattle.pbs_names.specs.Naming.{bit_name, bit_names}
+use Rattle.pbs_names.proofs.NameLemmas.{bits_step}
 use Rattle.pbs_check.specs.Declaring.{named}
 use Rattle.pbs_check.proofs.WalkLemmas.{moved_on}
 use Rattle.pbs_check.proofs.named.push_input.Goals as goal

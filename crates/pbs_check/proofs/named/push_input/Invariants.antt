@@ -1,5 +1,5 @@
 use Rattle.std.proofs.Common.{◌≡◌, ◌++◌, ◌-◌, map}
-use Rattle.pbs_rules.specs.Naming.{bit_names}
+use Rattle.pbs_names.specs.Naming.{bit_names}
 use Rattle.pbs_check.specs.Declaring.{named}
 use Rattle.pbs_check.proofs.named.push_input.Given as goal
 

@@ -1,8 +1,8 @@
 use Rattle.std.proofs.Common.{sym, subst, Option}
 use Rattle.pbs_base.specs.declared.refusal.Span.{Span}
-use Rattle.pbs_rules.specs.Moving.{Rule10}
+use Rattle.pbs_names.specs.StarsAndScopes.{Rule10}
 use Rattle.pbs_check.specs.Least.{IsLeast}
-use Rattle.pbs_check.proofs.MovingRules.{rule_10_is}
+use Rattle.pbs_check.proofs.StarScopeRules.{rule_10_is}
 use Rattle.pbs_check.proofs.rules.rule_10.Goals as goal
 
 pub returns : goal.returns

@@ -1,8 +1,8 @@
 use Rattle.std.proofs.Common.{sym, subst, Option}
 use Rattle.pbs_base.specs.declared.refusal.Span.{Span}
-use Rattle.pbs_rules.specs.Moving.{Rule9}
+use Rattle.pbs_names.specs.StarsAndScopes.{Rule9}
 use Rattle.pbs_check.specs.Least.{IsLeast}
-use Rattle.pbs_check.proofs.MovingRules.{rule_9_is}
+use Rattle.pbs_check.proofs.StarScopeRules.{rule_9_is}
 use Rattle.pbs_check.proofs.rules.rule_9.Goals as goal
 
 pub returns : goal.returns

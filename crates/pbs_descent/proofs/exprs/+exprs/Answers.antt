@@ -1,14 +1,14 @@
 use Rattle.std.proofs.Common.{[], ◌∷◌, ◌++◌, ap, ◌∙◌}
 use Rattle.std.proofs.lemmas.Result.{err_from_is_err_and}
-use Rattle.pbs_text.specs.Bare.{bare_expr}
+use Rattle.pbs_ast.proofs.Items.{ok_then}
+use Rattle.pbs_ast.specs.Bare.{bare_expr}
 use Rattle.pbs_text.specs.declared.token.TokenKind.TheVariants.{Comma, Bar}
-use Rattle.pbs_descent.proofs.TermExits.{begins, ok_then, err_then}
+use Rattle.pbs_descent.proofs.TermExits.{begins, err_then}
 use Rattle.pbs_descent.proofs.ExprExits.{group_empty, group_full, group_stops, group_unclosed, prim_use, prim_group}
 use Rattle.pbs_descent.proofs.ExprExits.{prim_group_stops, hold_read, hold_stops, scope_read, scope_stops, item_plain}
 use Rattle.pbs_descent.proofs.ExprExits.{scope_body_stops, trap_read, trap_no_abort, trap_stops, trap_no_then}
-use Rattle.pbs_descent.proofs.ExprExits.{trap_after_stops}
-use Rattle.pbs_descent.proofs.ExprExits.{item_repeated, item_counted, item_uncounted, seq_one, seq_first, seq_more}
-use Rattle.pbs_descent.proofs.ExprExits.{seq_whole, expr_one, expr_first, expr_more, expr_whole}
+use Rattle.pbs_descent.proofs.ExprExits.{trap_after_stops, item_repeated, item_counted, item_uncounted, seq_one}
+use Rattle.pbs_descent.proofs.ExprExits.{seq_first, seq_more, seq_whole, expr_one, expr_first, expr_more, expr_whole}
 use Rattle.pbs_descent.proofs.exprs.+exprs.Goals as goal
 
 pub group-returns-in-Some-behind-clause-ok : goal.group-returns-in-Some-behind-clause-ok

@@ -1,5 +1,6 @@
-use Rattle.pbs_text.specs.Bare.{bare_term}
-use Rattle.pbs_descent.proofs.TermExits.{unit_named, named_ok, ok_then}
+use Rattle.pbs_ast.proofs.Items.{ok_then}
+use Rattle.pbs_ast.specs.Bare.{bare_term}
+use Rattle.pbs_descent.proofs.TermExits.{unit_named, named_ok}
 use Rattle.pbs_descent.proofs.terms.named.Goals as goal
 
 pub returns-in-Some-clause-ok : goal.returns-in-Some-clause-ok

@@ -1,7 +1,7 @@
 use Rattle.std.proofs.Common.{◌≤◌, length, arith}
 use Rattle.std.proofs.lemmas.List.{length-map}
 use Rattle.pbs_ast.specs.declared.syntax.Decl.{Decl}
-use Rattle.pbs_rules.specs.Naming.{input_names, action_names}
+use Rattle.pbs_names.specs.Naming.{input_names, action_names}
 use Rattle.pbs_engine.proofs.Emitting.{Written, stands}
 use Rattle.pbs_engine.proofs.laws.emitted_stands.Goals as goal
 

@@ -1,6 +1,6 @@
 use Rattle.std.proofs.Common.{arith}
-use Rattle.pbs_rules.specs.Naming.{action_names}
-use Rattle.pbs_rules.proofs.NameLemmas.{number_below}
+use Rattle.pbs_names.specs.Naming.{action_names}
+use Rattle.pbs_names.proofs.NameLemmas.{number_below}
 use Rattle.pbs_expand.proofs.growth.grow_action.Goals as goal
 
 pub overflow_cast-number : goal.overflow_cast-number

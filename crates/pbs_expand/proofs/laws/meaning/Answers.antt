@@ -1,10 +1,9 @@
-use Rattle.std.proofs.Common.{◌≡◌, ℕ, ◌+◌, ◌<◌, Bool, Option, true, Some, List, map, length, subst, sym, ap}
-use Rattle.std.proofs.Common.{◌∙◌, arith}
+use Rattle.std.proofs.Common.{◌≡◌, ℕ, ◌+◌, ◌<◌, Bool, Option, true, Some, List, map, length, subst, sym, ap, ◌∙◌, arith}
 use Rattle.std.specs.Prelude.{◌↔◌}
 use Rattle.std.specs.List.{list_all}
 use Rattle.pbs_base.specs.Entries.{bit}
 use Rattle.bool_terms.specs.Terms.{Term, holds}
-use Rattle.pbs_rules.specs.declared.buses.Bus.{Bus}
+use Rattle.pbs_names.specs.declared.buses.Bus.{Bus}
 use Rattle.std.proofs.lemmas.List.Folds.{list_all-map}
 use Rattle.pbs_expand.specs.Written.{equal_term, literals, written}
 use Rattle.pbs_expand.proofs.TermRows.{written_all, written_any}

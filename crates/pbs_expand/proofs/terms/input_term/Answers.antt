@@ -1,6 +1,6 @@
 use Rattle.std.proofs.Common.{arith}
-use Rattle.pbs_rules.specs.Naming.{input_names}
-use Rattle.pbs_rules.proofs.NameLemmas.{number_below}
+use Rattle.pbs_names.specs.Naming.{input_names}
+use Rattle.pbs_names.proofs.NameLemmas.{number_below}
 use Rattle.pbs_expand.proofs.terms.input_term.Goals as goal
 
 pub overflow_cast-result : goal.overflow_cast-result

@@ -1,5 +1,5 @@
 use Rattle.std.proofs.Common.{arith, sym, ◌∙◌}
-use Rattle.pbs_rules.proofs.NameLemmas.{bus_within}
+use Rattle.pbs_names.proofs.NameLemmas.{bus_within}
 use Rattle.pbs_expand.proofs.TermRows.{equal_over}
 use Rattle.pbs_expand.proofs.terms.write_equal.Goals as goal
 

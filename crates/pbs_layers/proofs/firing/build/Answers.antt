@@ -1,5 +1,5 @@
 use Rattle.std.proofs.Common.{◌≡◌, length, ap, ◌∙◌, arith}
-use Rattle.pbs_rules.specs.Naming.{input_names}
+use Rattle.pbs_names.specs.Naming.{input_names}
 use Rattle.pbs_layers.proofs.firing.build.Goals as goal
 
 pub build_controller-requires-clause-inputs_few : goal.build_controller-requires-clause-inputs_few

@@ -1,5 +1,5 @@
 use Rattle.std.proofs.lemmas.Result.{err_from_is_err_and}
-use Rattle.pbs_text.specs.Bare.{bare_expr}
+use Rattle.pbs_ast.specs.Bare.{bare_expr}
 use Rattle.pbs_read.proofs.DeclExits.{prod_read, prod_stops}
 use Rattle.pbs_read.proofs.decls.prod.Goals as goal
 

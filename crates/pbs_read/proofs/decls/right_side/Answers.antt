@@ -1,5 +1,5 @@
 use Rattle.std.proofs.lemmas.Result.{err_from_is_err_and}
-use Rattle.pbs_text.specs.Bare.{bare_expr}
+use Rattle.pbs_ast.specs.Bare.{bare_expr}
 use Rattle.pbs_read.proofs.DeclExits.{right_side_read, right_side_no_equals, right_side_stops, right_side_unended}
 use Rattle.pbs_read.proofs.decls.right_side.Goals as goal
 

@@ -1,4 +1,4 @@
-use Rattle.pbs_descent.proofs.TermExits.{ok_then}
+use Rattle.pbs_ast.proofs.Items.{ok_then}
 use Rattle.pbs_read.proofs.TextExits.{decl_inputs, decl_names, decl_level, decl_prod}
 use Rattle.pbs_read.proofs.spec.decl.Goals as goal
 

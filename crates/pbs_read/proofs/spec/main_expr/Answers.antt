@@ -1,7 +1,7 @@
 use Rattle.std.proofs.Common.{◌≡◌, ◌<◌, length, arith}
 use Rattle.std.proofs.lemmas.Bool.Decides.{nat_tests}
 use Rattle.std.proofs.lemmas.Result.{err_from_is_err_and}
-use Rattle.pbs_text.specs.Bare.{bare_expr}
+use Rattle.pbs_ast.specs.Bare.{bare_expr}
 use Rattle.pbs_read.proofs.TextExits.{main_read, main_stops, main_more}
 use Rattle.pbs_read.proofs.spec.main_expr.Goals as goal
 

@@ -1,4 +1,4 @@
-use Rattle.pbs_text.specs.Bare.{bare_expr}
+use Rattle.pbs_ast.specs.Bare.{bare_expr}
 use Rattle.pbs_read.specs.inner.TextDescent.{bare_lists}
 use Rattle.pbs_read.proofs.TextExits.{text_read}
 use Rattle.pbs_read.proofs.spec.text.Goals as goal

@@ -1,7 +1,7 @@
 use Rattle.std.proofs.Common.{◌∙◌, List, subst}
 use Rattle.std.specs.Global.{Vec}
-use Rattle.pbs_rules.specs.Naming.{index_of, prod_names}
-use Rattle.pbs_rules.specs.Numbers.{number_in}
+use Rattle.pbs_names.specs.Naming.{index_of, prod_names}
+use Rattle.pbs_names.specs.Numbers.{number_in}
 use Rattle.pbs_check.specs.declared.graph.Link.{Link}
 use Rattle.pbs_check.specs.inner.Links.{AreTargets, AreUsers}
 use Rattle.pbs_check.proofs.NumberLemmas.{same_links}

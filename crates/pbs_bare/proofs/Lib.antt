@@ -1,9 +1,0 @@
-mod Alike
-mod AlikeUses
-mod BareForms
-mod BareParts
-mod BareTerms
-mod Rows
-mod SameRules
-mod SameWalks
-mod Twice

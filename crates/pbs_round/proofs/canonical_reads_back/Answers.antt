@@ -1,8 +1,0 @@
-use Rattle.pbs_round.proofs.Whole.{written_reads_back, read_reads_back}
-use Rattle.pbs_round.proofs.canonical_reads_back.Goals as goal
-
-pub returns-clause-written : goal.returns-clause-written
-returns-clause-written c = written_reads_back
-
-pub returns-clause-read : goal.returns-clause-read
-returns-clause-read c = read_reads_back

@@ -1,2 +1,0 @@
-pub mod Unspanned
-pub mod Written

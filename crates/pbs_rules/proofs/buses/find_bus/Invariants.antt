@@ -1,6 +1,0 @@
-use Rattle.std.proofs.Common.{drop}
-use Rattle.pbs_rules.proofs.NameLemmas.{IsAtBus}
-use Rattle.pbs_rules.proofs.buses.find_bus.Given as goal
-
-abbrev pub invariant-loop-decl : goal.invariant-loop-decl
-invariant-loop-decl l = IsAtBus l.inputs (drop l.decl-index l.decl-items) l.start l.name

@@ -1,5 +1,0 @@
-pub mod Forms
-pub mod Moving
-pub mod Naming
-pub mod Numbers
-pub mod Reach
