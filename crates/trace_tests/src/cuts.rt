@@ -1,63 +1,58 @@
 // Each cutting of a text gives the same.
 ghost use Rattle.std.specs.Prelude.{◌≤◌, length};
 
-use crate::names::{named, refusal};
+use crate::names::named;
 use crate::pieces::{Wanted, finds_each_way};
 use pbs_base::Names;
 use std::alloc::Global;
 use std::test::Fail;
 use trace_text::Row;
 
-const TURNED: &[Row] = &[Row::Vector(1), Row::Reset, Row::Vector(2), Row::Vector(3), Row::End];
+const TURNED: &[Row] = &[Row::Vector(1), Row::Reset, Row::Vector(2), Row::Vector(3)];
 
-const RESETS: &[Row] = &[Row::Vector(2), Row::Reset, Row::Vector(1), Row::Reset, Row::End];
+const RESETS: &[Row] = &[Row::Vector(2), Row::Reset, Row::Vector(1), Row::Reset];
 
-const MIXED: &[Row] = &[Row::Vector(2), Row::Vector(1), Row::Refused(refusal(3, 17, 18))];
+const TWO: &[Row] = &[Row::Vector(2), Row::Vector(1)];
 
-const EMPTY: &[Row] = &[Row::Vector(2), Row::Vector(1), Row::Refused(refusal(3, 16, 17))];
+const THREE: &[Row] = &[Row::Vector(2), Row::Vector(3), Row::Vector(0)];
 
-const SHORT: &[Row] = &[Row::Vector(2), Row::Vector(3), Row::Vector(0), Row::Refused(refusal(3, 20, 20))];
-
-const LONG_RESET: &[Row] = &[Row::Reset, Row::Reset, Row::Refused(refusal(3, 15, 16))];
-
-const LONG: &[Row] = &[Row::Refused(refusal(3, 12, 13))];
-
-const ONLY_END: &[Row] = &[Row::End];
+const TWO_RESETS: &[Row] = &[Row::Reset, Row::Reset];
 
 // Texts for two ports, `a` and `b`.
 const TWO_PORTS: &[(&'static [u8], Wanted<'static>)] = &[
     (b"trace b a\n01\nr\n10\n11", Wanted::Rows(TURNED)),
     (b"trace b a\n01\nr\n10\n11\n", Wanted::Rows(TURNED)),
     (b"trace a b\n01\nr\n10\nr", Wanted::Rows(RESETS)),
-    (b"trace b a", Wanted::Rows(ONLY_END)),
-    (b"trace b a\n", Wanted::Rows(ONLY_END)),
-    (b"trace a b\n01\n10\n1r\n0", Wanted::Rows(MIXED)),
-    (b"trace a b\n01\n10\n\n00\n", Wanted::Rows(EMPTY)),
-    (b"trace a b\n01\n11\n00\n1", Wanted::Rows(SHORT)),
-    (b"trace a b\nr\nr\nr0\n01\n", Wanted::Rows(LONG_RESET)),
-    (b"trace a b\n110\n01\n10\n", Wanted::Rows(LONG)),
-    (b"", Wanted::NoHeader(refusal(2, 0, 0))),
-    (b"\ntrace a b\n01\n10\n00\n", Wanted::NoHeader(refusal(2, 0, 0))),
-    (b"trace a  b\n01\n10\n11\n", Wanted::NoHeader(refusal(2, 0, 10))),
-    (b"trace a b \n01\n10\n11\n", Wanted::NoHeader(refusal(2, 0, 10))),
-    (b"Trace a b\n01\n10\n11\nr", Wanted::NoHeader(refusal(2, 0, 9))),
-    (b"trace a c\n01\n10\n11\nr", Wanted::NoHeader(refusal(2, 8, 9))),
-    (b"trace b b\n01\n10\n11\nr", Wanted::NoHeader(refusal(2, 8, 9))),
-    (b"trace a\n0\n1\n0\n1\nr\n1\n", Wanted::NoHeader(refusal(2, 7, 7))),
-    (b"trace bb ab", Wanted::NoHeader(refusal(2, 6, 8))),
+    (b"trace b a", Wanted::Rows(&[])),
+    (b"trace b a\n", Wanted::Rows(&[])),
+    (b"trace a b\n01\n10\n1r\n0", Wanted::RowsTo(TWO, 17, 18)),
+    (b"trace a b\n01\n10\n\n00\n", Wanted::RowsTo(TWO, 16, 17)),
+    (b"trace a b\n01\n11\n00\n1", Wanted::RowsTo(THREE, 20, 20)),
+    (
+        b"trace a b\nr\nr\nr0\n01\n",
+        Wanted::RowsTo(TWO_RESETS, 15, 16),
+    ),
+    (b"trace a b\n110\n01\n10\n", Wanted::RowsTo(&[], 12, 13)),
+    (b"", Wanted::NoHeader(0, 0)),
+    (b"\ntrace a b\n01\n10\n00\n", Wanted::NoHeader(0, 0)),
+    (b"trace a  b\n01\n10\n11\n", Wanted::NoHeader(0, 10)),
+    (b"trace a b \n01\n10\n11\n", Wanted::NoHeader(0, 10)),
+    (b"Trace a b\n01\n10\n11\nr", Wanted::NoHeader(0, 9)),
+    (b"trace a c\n01\n10\n11\nr", Wanted::NoHeader(8, 9)),
+    (b"trace b b\n01\n10\n11\nr", Wanted::NoHeader(8, 9)),
+    (b"trace a\n0\n1\n0\n1\nr\n1\n", Wanted::NoHeader(7, 7)),
+    (b"trace bb ab", Wanted::NoHeader(6, 8)),
 ];
 
-const ROWS_OF_NOTHING: &[Row] = &[Row::Vector(0), Row::Reset, Row::Vector(0), Row::End];
-
-const NOT_NOTHING: &[Row] = &[Row::Vector(0), Row::Refused(refusal(3, 7, 8))];
+const EMPTY_LINES: &[Row] = &[Row::Vector(0), Row::Reset, Row::Vector(0)];
 
 // Without ports each empty line is a row.
 const NO_PORTS: &[(&'static [u8], Wanted<'static>)] = &[
-    (b"trace\n\nr\n\n", Wanted::Rows(ROWS_OF_NOTHING)),
-    (b"trace\n", Wanted::Rows(ONLY_END)),
-    (b"trace", Wanted::Rows(ONLY_END)),
-    (b"trace\n\n0\n", Wanted::Rows(NOT_NOTHING)),
-    (b"trace a\n", Wanted::NoHeader(refusal(2, 6, 7))),
+    (b"trace\n\nr\n\n", Wanted::Rows(EMPTY_LINES)),
+    (b"trace\n", Wanted::Rows(&[])),
+    (b"trace", Wanted::Rows(&[])),
+    (b"trace\n\n0\n", Wanted::RowsTo(&[Row::Vector(0)], 7, 8)),
+    (b"trace a\n", Wanted::NoHeader(6, 7)),
 ];
 
 // The number of the first text in which something else is found.

@@ -39,10 +39,10 @@ fn refused_at_last(alloc: Global, ports: &Names, last: &[u8]) -> Result<Option<R
 
 // Behind 67,108,864 letters: one more, the newline that comes too late, and nothing, for a line that ends with the text
 // may have so many bytes (this one has no header's form).
-const ENDS: &[(&'static [u8], Refusal)] = &[
-    (b"a", refusal(1, 67_108_864, 67_108_865)),
-    (b"\n", refusal(1, 67_108_864, 67_108_865)),
-    (b"", refusal(2, 0, 67_108_864)),
+const ENDS: &[(&'static [u8], u8, u32, u32)] = &[
+    (b"a", 1, 67_108_864, 67_108_865),
+    (b"\n", 1, 67_108_864, 67_108_865),
+    (b"", 2, 0, 67_108_864),
 ];
 
 #[test]
@@ -50,8 +50,9 @@ fn longest_headers(rt: HostRuntime) -> Result<(), Fail> {
     let alloc = rt.alloc();
     let ports = named(alloc, &[b"a"])?;
     assert!(rt; ports.len() == 1);
-    for (last, wanted) in ENDS {
-        assert_eq!(rt; refused_at_last(alloc, &ports, *last)?, Some(*wanted));
+    for (last, rule, start, end) in ENDS {
+        let found = refused_at_last(alloc, &ports, *last)?;
+        assert_eq!(rt; found, Some(refusal(*rule, *start, *end)));
     }
     Ok(())
 }

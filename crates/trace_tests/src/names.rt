@@ -14,7 +14,7 @@ pub(crate) fn named(alloc: Global, all: &[&[u8]]) -> Result<Names, Fail> {
 }
 
 /// The trace is refused by this rule, with this span.
-pub(crate) const fn refusal(rule: u8, start: u32, end: u32) -> Refusal {
+pub(crate) fn refusal(rule: u8, start: u32, end: u32) -> Refusal {
     Refusal {
         subject: Subject::Trace,
         rule,

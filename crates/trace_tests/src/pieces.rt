@@ -3,16 +3,19 @@ ghost use Rattle.std.specs.Prelude.{◌≡◌, ◌≤◌, length, IfOk};
 ghost use Rattle.trace_text.specs.States.{head_phase, row_phase};
 ghost use Rattle.trace_text.specs.declared.answers.Phase.TheVariants.{Header, Rows};
 
-use pbs_base::{Names, Refusal};
+use crate::names::refusal;
+use pbs_base::Names;
 use std::alloc::Global;
 use std::test::Fail;
 use trace_text::{Head, Row, TraceReader};
 
-/// What is to be found in a text: its rows with its end, or why its header is refused.
+/// What is to be found in a text: its rows, its rows up to where one is refused by rule 3, or where its header is
+/// refused by rule 2.
 #[derive(Clone, Copy)]
 pub(crate) enum Wanted<'w> {
     Rows(&'w [Row]),
-    NoHeader(Refusal),
+    RowsTo(&'w [Row], u32, u32),
+    NoHeader(u32, u32),
 }
 
 /// Reads the header, and answers how much of its last piece is left, and the pieces behind that. The last of the pieces
@@ -57,27 +60,27 @@ fn read_row<'p>(
     }
 }
 
-// Whether these are the rows of the rest.
+// Whether these are the rows of the rest, and this is behind them.
 fn has_rows<'p>(
     reader: &mut TraceReader,
     piece: &'p [u8],
     behind: &'p [&'p [u8]],
     wanted: &[Row],
+    end: Row,
 ) -> bool
     requires { reader.old.phase ≡ Rows }
 {
     let (row, rest, others) = read_row(reader, piece, behind);
     let [first, more @ ..] = wanted else {
-        return false;
+        return row == end;
     };
     if row != *first {
         return false;
     }
     match row {
-        Row::Vector(_) => has_rows(reader, rest, others, more),
-        Row::Reset => has_rows(reader, rest, others, more),
-        Row::End | Row::Refused(_) => more.is_empty(),
-        Row::More => false,
+        Row::Vector(_) => has_rows(reader, rest, others, more, end),
+        Row::Reset => has_rows(reader, rest, others, more, end),
+        Row::End | Row::Refused(_) | Row::More => false,
     }
 }
 
@@ -94,16 +97,18 @@ pub(crate) fn finds(
         return Err("memory".into());
     };
     let (head, rest, behind) = read_head(&mut reader, pieces)?;
-    match head {
-        Head::Ready => match wanted {
-            Wanted::Rows(rows) => Ok(has_rows(&mut reader, rest, behind, rows)),
-            Wanted::NoHeader(_) => Ok(false),
-        },
-        Head::Refused(found) => match wanted {
-            Wanted::Rows(_) => Ok(false),
-            Wanted::NoHeader(refusal) => Ok(found == refusal),
-        },
-        Head::More => Ok(false),
+    match (head, wanted) {
+        (Head::Ready, Wanted::Rows(rows)) => {
+            Ok(has_rows(&mut reader, rest, behind, rows, Row::End))
+        }
+        (Head::Ready, Wanted::RowsTo(rows, start, end)) => {
+            let last = Row::Refused(refusal(3, start, end));
+            Ok(has_rows(&mut reader, rest, behind, rows, last))
+        }
+        (Head::Refused(found), Wanted::NoHeader(start, end)) => {
+            Ok(found == refusal(2, start, end))
+        }
+        _ => Ok(false),
     }
 }
 

@@ -38,15 +38,15 @@ fn most_ports(rt: HostRuntime) -> Result<(), Fail> {
     let ports = numbered(alloc)?;
     assert!(rt; ports.len() == 64);
     let text = turned(alloc, 63)?;
-    let wanted = Wanted::Rows(&[Row::Vector(1), Row::End]);
+    let wanted = Wanted::Rows(&[Row::Vector(1)]);
     assert!(rt; finds(alloc, &ports, &[text.as_slice()], wanted)?);
     let mut text = turned(alloc, 62)?;
     text.extend_from_slice(b"0\n")?;
-    let wanted = Wanted::Rows(&[Row::Vector(9_223_372_036_854_775_808), Row::End]);
+    let wanted = Wanted::Rows(&[Row::Vector(9_223_372_036_854_775_808)]);
     assert!(rt; finds(alloc, &ports, &[text.as_slice()], wanted)?);
     let few = named(alloc, &[b"p63"])?;
     assert!(rt; few.len() == 1);
-    let wanted = Wanted::Rows(&[Row::Vector(1), Row::Vector(0), Row::End]);
+    let wanted = Wanted::Rows(&[Row::Vector(1), Row::Vector(0)]);
     assert!(rt; finds(alloc, &few, &[b"trace p63\n1\n0\n"], wanted)?);
     Ok(())
 }
