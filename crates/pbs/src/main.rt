@@ -1,8 +1,8 @@
 // The program: it lends `run` the real files and standard output, and ends with its status.
 #![tactic(auto)]
 
-use pbs_io::{FileShelf, StdSink};
 use pbs_cli::run;
+use pbs_io::{FileShelf, StdSink};
 use std::env;
 use std::io::ErrorKind;
 use std::process::ExitCode;

@@ -4,6 +4,7 @@ ghost use Rattle.pbs_cli.specs.Words.{command_of, texts};
 ghost use Rattle.pbs_cli.specs.inner.Parts.{meant};
 
 /// What is done with the first file: with a specification, or for `Sim` with a netlist. The names are those of traces.
+#[derive(Drop)]
 pub(crate) enum Job<'a> {
     Check,
     Compile,
@@ -11,6 +12,7 @@ pub(crate) enum Job<'a> {
     Trace(&'a str),
 }
 
+#[derive(Drop)]
 pub(crate) struct Command<'a> {
     pub job: Job<'a>,
     /// The name of the first file.

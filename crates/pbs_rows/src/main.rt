@@ -2,8 +2,8 @@
 #![tactic(auto)]
 
 use pbs_base::Memory;
-use pbs_io::{MemShelf, MemSink};
 use pbs_cli::run;
+use pbs_io::{MemShelf, MemSink};
 use row_files::{Answer, Limits, NamedText, Subject, run_files};
 use std::alloc::Global;
 use std::process::ExitCode;

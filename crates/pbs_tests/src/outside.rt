@@ -1,7 +1,10 @@
 // The implementations of the outside: docs/ARCHITECTURE.md, "The outside".
 use crate::files::{shelf, sink};
 use pbs_base::{Refusal, Span, Subject};
-use pbs_io::{CalmShelf, CalmSink, FileShelf, ReadFail, Shelf, Sink, StdSink, read_all, write_all, write_refusal};
+use pbs_io::{
+    CalmShelf, CalmSink, FileShelf, ReadFail, Shelf, Sink, StdSink, read_all, write_all,
+    write_refusal,
+};
 use std::fs;
 use std::test::Fail;
 

@@ -1,7 +1,7 @@
 // The statuses over an outside that never fails: docs/FORMATS.md, "Statuses".
 use crate::files::{ONE, SEQUENCE, words};
-use pbs_io::{CalmShelf, CalmSink};
 use pbs_cli::run;
+use pbs_io::{CalmShelf, CalmSink};
 use std::test::Fail;
 
 // On the calm shelf an absent file is empty, and the empty text is no specification.
