@@ -170,6 +170,7 @@ impl Store {
         ensures diagram { IsDiagram self.now }
         ensures chosen { IsChosen self.now asked result }
     {
+        // For the proof alone: what a store keeps is known where its branches are read.
         let _ = &self.branches;
         if value { asked.if_true } else { asked.if_false }
     }
@@ -248,6 +249,7 @@ impl Store {
         ensures diagram { IsDiagram self.new }
         ensures made { IfOk result (IsMade self.new branch) }
     {
+        // For the proof alone: what a store keeps is known where its branches are read.
         let _ = &self.branches;
         if branch.low == branch.high {
             return Ok(branch.low);
@@ -264,6 +266,7 @@ impl Store {
         ensures most { result ≤ 64 }
         ensures inner { (n : ℕ) → node ≡ Inner n → result < 64 }
     {
+        // For the proof alone: what a store keeps is known where its branches are read.
         let _ = &self.branches;
         match node {
             Node::Leaf(_) => 64,

@@ -148,12 +148,15 @@ module _ {A B : Type 0} (T : Task A) (U : Task B) (x : List NamedFile → A) (y 
     λ files told. stopped files told (e.1 files (told_there files told)),
   )
   ends_more (Err fails.WriteFault) e = (e.0, λ files told. cut files told (e.1 files (told_there files told)))
-  ends_more (Err fails.Memory) e = (e.0, λ files told. (
-    let little = e.1 files (told_there files told) in record {
-      taken = little.taken;
-      took = from_here files little.taken little.took;
-      little = little.little;
-    }))
+  ends_more (Err fails.Memory) e = (
+    e.0,
+    λ files told. (
+        let little = e.1 files (told_there files told) in record {
+          taken = little.taken;
+          took = from_here files little.taken little.took;
+          little = little.little;
+        }),
+  )
 
   pub few_more : {most : ℕ} (files : List NamedFile)
       → TakesAtMost most (trace_text T.trace files) (b.slots 1) (c.slots 1)

@@ -24,6 +24,7 @@ pub(crate) fn port_names(alloc: Global, net: &Netlist) -> Result<Names, Memory>
     ensures few { IfOk result (λ names. length names ≤ 128) }
     ensures right { IsCircuit net.now }
 {
+    // For the proof alone: what a netlist keeps is known where its gates are read.
     let _ = net.gates();
     let words = output_words(alloc, net.outputs())?;
     Names::from_words(alloc, words.as_slice())

@@ -68,6 +68,7 @@ pub(crate) fn write_piece<K: Sink>(
 {
     let mut at = 0;
     while at < piece.len() {
+        // For the proof alone: what a reader keeps is known where its count is read.
         let _ = reader.bytes_used();
         let (used, row) = reader.next_row(&piece[at..], false);
         let Some(entry) = entry_of(row) else {
@@ -110,6 +111,7 @@ pub(crate) fn finish<K: Sink>(
         → ReadAll net.inputs reader.old done entries → Shown net before entries report.old (K.state sink.old)
         → FinishesLater net before done (K.state sink.new) result }
 {
+    // For the proof alone: what a reader keeps is known where its count is read.
     let _ = reader.bytes_used();
     let (_, row) = reader.next_row(&[], true);
     let Some(entry) = entry_of(row) else {

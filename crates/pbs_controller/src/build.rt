@@ -43,6 +43,7 @@ fn finished(b: Builder) -> Netlist
     ensures right { IsCircuit result }
 {
     let net = b.finish();
+    // For the proof alone: what a netlist keeps is known where its gates are read.
     net.gates();
     net
 }

@@ -47,6 +47,7 @@ fn reread(alloc: Global, text: &[u8], verilog: &[u8]) -> Result<Netlist, EngineF
     ensures { ReadsBack text.now result }
 {
     one_answer();
+    // For the proof alone: the clause speaks of the text.
     let _ = text;
     match read_netlist(alloc, verilog) {
         Ok(net) => Ok(net),

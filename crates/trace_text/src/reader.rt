@@ -114,6 +114,7 @@ impl<'a> TraceReader<'a> {
         ensures more { result ≡ More }
         ensures begun { IsInRow self.now }
     {
+        // For the proof alone: what a reader keeps is known where its begun line is read.
         let _ = &self.begun;
         Row::More
     }
