@@ -86,21 +86,21 @@ returns-clause-first g c =
     let top = top_ends _ _ _ _ _ c.perform.result c.perform.ensures.usage.0
     (λ is. (ap g.S.Shelf.state (c.perform.ensures.untouched is).0, ap g.K.Sink.state (c.perform.ensures.untouched is).1))
     c.perform.ensures.ends in
-    rw c.code.ensures top.first
+    top.first
 
 pub returns-clause-few : goal.returns-clause-few
 returns-clause-few g c =
     let top = top_ends _ _ _ _ _ c.perform.result c.perform.ensures.usage.0
     (λ is. (ap g.S.Shelf.state (c.perform.ensures.untouched is).0, ap g.K.Sink.state (c.perform.ensures.untouched is).1))
     c.perform.ensures.ends in
-    rw c.code.ensures top.few
+    top.few
 
 pub returns-clause-second : goal.returns-clause-second
 returns-clause-second g c =
     let top = top_ends _ _ _ _ _ c.perform.result c.perform.ensures.usage.0
     (λ is. (ap g.S.Shelf.state (c.perform.ensures.untouched is).0, ap g.K.Sink.state (c.perform.ensures.untouched is).1))
     c.perform.ensures.ends in
-    rw c.code.ensures top.second
+    top.second
 
 pub returns-clause-complete : goal.returns-clause-complete
 returns-clause-complete g c =
