@@ -1,7 +1,7 @@
 -- The parts of the netlist that the raw netlist stands for.
 use Rattle.std.proofs.Common.{◌≡◌, ℕ, zero, suc, ◌+◌, ◌≤◌, Bool, true, false, not, ◌&&◌, cond, List, [], ◌∷◌, ◌++◌}
 use Rattle.std.proofs.Common.{length, map, filter, Option, Some, None, refl, sym, ap, ◌∙◌, arith}
-use Rattle.std.specs.Prelude.{slice_get, slice_index, unwrap_or}
+use Rattle.std.specs.Prelude.{slice_get, slice_index}
 use Rattle.std.specs.List.{find, position_from}
 use Rattle.std.proofs.lemmas.List.{length-map}
 use Rattle.std.proofs.lemmas.Option.{same_Some}
@@ -14,7 +14,7 @@ use Rattle.vlog_text.specs.declared.raw.RawName.{RawName}
 use Rattle.vlog_text.specs.declared.raw.RawGate.{RawGate}
 use Rattle.vlog_text.specs.declared.raw.RawReg.{RawReg}
 use Rattle.vlog_text.specs.declared.raw.RawNetlist.{RawNetlist}
-use Rattle.vlog_text.specs.Words.{has_word, target_name, repeated, decl_names, is_named, uses}
+use Rattle.vlog_text.specs.Words.{has_word, repeated, decl_names, is_named, uses}
 use Rattle.vlog_text.specs.Orders.{place_in, renumbered, reordered}
 use Rattle.vlog_text.specs.Refusing.{refusals, rule_4, rule_5, rule_6, rule_7, rule_8, declared, first_broken}
 use Rattle.vlog_text.specs.Standing.{is_declared, is_port, inputs, outputs, output_of, net_of}

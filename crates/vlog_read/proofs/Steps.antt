@@ -1,8 +1,8 @@
 -- Steps of the work that is left while gates are put in order.
-use Rattle.std.proofs.Common.{◌≡◌, ℕ, zero, suc, ◌+◌, ◌<◌, ◌≤◌, ◌⊎◌, inl, inr, Bool, true, false, not, ◌&&◌, List, []}
-use Rattle.std.proofs.Common.{◌∷◌, ◌++◌, length, Option, Some, None, get_or, set, refl, sym, ap, ◌∙◌, subst, arith}
+use Rattle.std.proofs.Common.{◌≡◌, ℕ, zero, suc, ◌<◌, ◌≤◌, ◌⊎◌, inl, inr, Bool, true, false, not, ◌&&◌, List, []}
+use Rattle.std.proofs.Common.{◌∷◌, ◌++◌, length, Some, None, refl, sym, ap, ◌∙◌, subst, arith}
 use Rattle.std.proofs.Common.{get_or-set_other, get_or-set_same, length-set}
-use Rattle.std.specs.Prelude.{slice_get, slice_set, slice_index_or, nat_eq}
+use Rattle.std.specs.Prelude.{slice_get, slice_set, slice_index_or}
 use Rattle.std.specs.Ordering.{nat_cmp}
 use Rattle.std.specs.BTreeSet.{BTreeSet, contains, Updates, IsLowerBound}
 use Rattle.std.proofs.lemmas.Option.{same_Some, slice_get_within}
@@ -12,7 +12,7 @@ use Rattle.net_core.specs.declared.gate.Wire.TheVariants.{Const, Reset, Input, R
 use Rattle.net_core.specs.declared.gate as netlist
 use Rattle.vlog_read.specs.declared.waiting.Waiter.{Waiter}
 use Rattle.vlog_text.specs.Orders.{is_settled, all_settled, can_be_taken, first_from}
-use Rattle.vlog_read.specs.inner.Queues.{Has, SettledBetween, IsReady, IsWaiter, WaitsFor, IsWaiting, IsQueue, without}
+use Rattle.vlog_read.specs.inner.Queues.{Has, SettledBetween, IsReady, IsWaiter, WaitsFor, IsQueue, without}
 use Rattle.vlog_read.specs.inner.Queues.{wakes}
 use Rattle.vlog_read.proofs.Tests.{set_same, set_other, least_le}
 use Rattle.vlog_read.proofs.Tests.{without_other, wakes_has}
