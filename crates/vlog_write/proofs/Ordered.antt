@@ -1,6 +1,6 @@
 -- Gates whose pins name earlier gates stand in order as they stood.
 use Rattle.std.proofs.Common.{◌≡◌, ℕ, zero, suc, ◌+◌, ◌-◌, ◌<◌, ◌≤◌, inl, inr, Bool, true, false, not, ◌&&◌, cond, List}
-use Rattle.std.proofs.Common.{[], ◌∷◌, ◌++◌, length, map, Option, Some, refl, sym, ap, ◌∙◌, arith}
+use Rattle.std.proofs.Common.{[], ◌∷◌, ◌++◌, length, map, Some, refl, ap, ◌∙◌, arith}
 use Rattle.std.specs.Prelude.{slice_get, nat_eq, ◌||◌, unwrap_or}
 use Rattle.std.specs.List.{position_from, filter_map, range_with_len, cons_option}
 use Rattle.std.specs.Option.{option_map}
