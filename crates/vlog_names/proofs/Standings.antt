@@ -13,7 +13,8 @@ use Rattle.vlog_text.specs.declared.raw.RawGate.{RawGate}
 use Rattle.vlog_text.specs.declared.raw.RawReg.{RawReg}
 use Rattle.vlog_text.specs.declared.raw.RawNetlist.{RawNetlist}
 use Rattle.vlog_text.specs.Words.{has_word, target_name}
-use Rattle.vlog_text.specs.Standing.{drives, is_input, is_output, is_reg, is_declared, is_plain_input, inputs, registers, driver}
+use Rattle.vlog_text.specs.Standing.{drives, is_input, is_output, is_reg, is_declared, is_plain_input, inputs}
+use Rattle.vlog_text.specs.Standing.{registers, driver}
 use Rattle.vlog_text.specs.Standing.{number_of, word_wire}
 use Rattle.vlog_names.specs.declared.firsts.Firsts.{Firsts}
 use Rattle.vlog_names.specs.declared.kinds.Kinds.{Kinds}

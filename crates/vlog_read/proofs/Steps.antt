@@ -141,7 +141,8 @@ module _ (gates : List netlist.Gate.Gate) (taken taken' : ℕ → Bool) (ready r
 
   apart_in : (n : ℕ) → contains nat_cmp ready' n ≡ true → n ≡ k → ⊥
   apart_in n h e =
-      both_ways (contains nat_cmp ready' k) (set_same ready ready' k false update) (ap (λ j. contains nat_cmp ready' j) (sym e) ∙ h)
+      both_ways (contains nat_cmp ready' k) (set_same ready ready' k false update)
+      (ap (λ j. contains nat_cmp ready' j) (sym e) ∙ h)
 
   apart_free : (n : ℕ) → taken' n ≡ false → n ≡ k → ⊥
   apart_free n h e = both_ways (taken' k) (ap taken' (sym e) ∙ h) m.here
@@ -170,7 +171,8 @@ module _ (gates : List netlist.Gate.Gate) (taken taken' : ℕ → Bool) (ready r
         let w = q.others_wait n within (sym (m.others n ne) ∙ free)
         (sym (set_other ready ready' k n false update ne) ∙ out) refl in
         elim (cases_eq w.awaited k) [
-          | inl e ↦ absurd (both_ways (wakes (slice_index_or waiting k []) n) calm (wakes_has (slice_index_or waiting k []) w.waiter n
+          | inl e ↦ absurd (both_ways (wakes (slice_index_or waiting k []) n) calm
+              (wakes_has (slice_index_or waiting k []) w.waiter n
               (subst (λ j. Has (slice_index_or waiting j []) w.waiter) e w.listed) w.same))
           | inr apart ↦ record {
             awaited = w.awaited;
@@ -219,7 +221,8 @@ module _ (gates : List netlist.Gate.Gate) (taken : ℕ → Bool) (ready ready' :
     waiters_are = q.waiters_are;
     others_wait = λ n within free out calm.
         let ne : n ≡ w.gate → ⊥
-        = λ e. both_ways (contains nat_cmp ready' w.gate) (ap (λ j. contains nat_cmp ready' j) (sym e) ∙ out) (set_same ready ready' w.gate true update) in
+        = λ e. both_ways (contains nat_cmp ready' w.gate) (ap (λ j. contains nat_cmp ready' j) (sym e) ∙ out)
+        (set_same ready ready' w.gate true update) in
         q.others_wait n within free (sym (set_other ready ready' w.gate n true update ne) ∙ out)
         (without_other pending w.gate n ne calm);
   }

@@ -11,8 +11,8 @@ use Rattle.net_core.specs.declared.gate.Wire.TheVariants as wire
 use Rattle.net_core.specs.declared.gate.Gate as gate
 use Rattle.net_core.specs.Circuits.{IsThere}
 use Rattle.vlog_text.specs.declared.raw.RawGate.{RawGate}
-use Rattle.vlog_text.specs.Orders.{is_among, is_settled, all_settled, first_from, then_on, order_from, order_of, place_in}
-use Rattle.vlog_text.specs.Orders.{renumbered, moved, reordered}
+use Rattle.vlog_text.specs.Orders.{is_among, is_settled, all_settled, first_from, then_on, order_from, order_of}
+use Rattle.vlog_text.specs.Orders.{place_in, renumbered, moved, reordered}
 use Rattle.vlog_text.specs.Refusing.{item_target, left_out}
 use Rattle.vlog_text.proofs.OrderLemmas.{AreEarlier, some_at, settled_all, some_from}
 
