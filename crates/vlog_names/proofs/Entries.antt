@@ -3,7 +3,7 @@ use Rattle.std.proofs.Common.{◌≡◌, ℕ, zero, suc, ◌+◌, ◌<◌, Bool,
 use Rattle.std.proofs.Common.{subst, append-nil, take, drop, Option, Some, None, get_or, refl, sym, ap, ◌∙◌, drop-cons}
 use Rattle.std.proofs.Common.{add-one, arith}
 use Rattle.std.specs.Prelude.{◌||◌, is_some}
-use Rattle.std.specs.List.{cons_option, filter_map, position_from, list_any}
+use Rattle.std.specs.List.{cons_option, filter_map, position_from}
 use Rattle.pbs_base.specs.declared.refusal.Refusal.{Refusal}
 use Rattle.vlog_text.specs.declared.raw.RawName.{RawName}
 use Rattle.vlog_text.specs.Words.{has_word, is_named, repeated}

@@ -1,10 +1,10 @@
 -- As what words are declared.
 use Rattle.std.proofs.Common.{◌≡◌, ℕ, zero, suc, ◌+◌, ◌<◌, Bool, true, false, not, ◌&&◌, cond, List, [], ◌∷◌, ◌++◌}
 use Rattle.std.proofs.Common.{length}
-use Rattle.std.proofs.Common.{subst, map, filter, take, drop, Option, Some, None, get_or, refl, sym, ap, ◌∙◌, add-one}
+use Rattle.std.proofs.Common.{subst, map, filter, take, drop, Option, Some, get_or, refl, sym, ap, ◌∙◌, add-one}
 use Rattle.std.proofs.Common.{arith}
-use Rattle.std.specs.Prelude.{◌||◌, is_some}
-use Rattle.std.specs.List.{list_any, filter_map, cons_option}
+use Rattle.std.specs.Prelude.{◌||◌}
+use Rattle.std.specs.List.{filter_map}
 use Rattle.std.specs.Str.{bytes_eq}
 use Rattle.std.proofs.lemmas.List.Folds.{list_any-append}
 use Rattle.pbs_base.specs.declared.refusal.Refusal.{Refusal}
@@ -19,8 +19,7 @@ use Rattle.vlog_names.specs.declared.kinds.Kinds.{Kinds}
 use Rattle.vlog_names.specs.declared.kinds.KindTable.{KindTable}
 use Rattle.vlog_names.specs.Names.{is_wire, is_declared_in, kinds_of, kinds_in, KnowsKinds}
 use Rattle.vlog_names.specs.inner.Steps.{with_kind, is_any, when}
-use Rattle.vlog_names.proofs.Noting.{when_opens}
-use Rattle.vlog_names.proofs.Entries.{repeated_step, take_mapped, take_all, drop_all, mapped_present}
+use Rattle.vlog_names.proofs.Entries.{repeated_step, take_all, drop_all, mapped_present}
 
 or_false : (a : Bool) → (a || false) ≡ a
 or_false true = refl

@@ -1,14 +1,12 @@
 -- Numbers that are given one by one.
-use Rattle.std.proofs.Common.{◌≡◌, ℕ, zero, suc, ◌+◌, ◌<◌, ◌≤◌, Bool, true, false, cond, List, [], ◌∷◌, ◌++◌, length}
+use Rattle.std.proofs.Common.{◌≡◌, ℕ, suc, ◌+◌, ◌<◌, ◌≤◌, Bool, true, false, cond, List, [], ◌∷◌, ◌++◌, length}
 use Rattle.std.proofs.Common.{map}
-use Rattle.std.proofs.Common.{filter, take, Option, Some, None, get_or, refl, sym, ap, ◌∙◌, subst, append-nil, add-one}
+use Rattle.std.proofs.Common.{take, Option, Some, None, get_or, refl, sym, ap, ◌∙◌, subst, append-nil, add-one}
 use Rattle.std.proofs.Common.{arith}
 use Rattle.std.proofs.Common.{length-append}
-use Rattle.std.specs.Prelude.{unwrap_or, is_some}
-use Rattle.std.specs.List.{cons_option, filter_map, position_from}
+use Rattle.std.specs.Prelude.{is_some}
+use Rattle.std.specs.List.{filter_map, position_from}
 use Rattle.vlog_text.specs.declared.raw.RawName.{RawName}
-use Rattle.vlog_text.specs.declared.raw.RawDecl.{RawDecl}
-use Rattle.vlog_text.specs.declared.raw.RawGate.{RawGate}
 use Rattle.vlog_text.specs.Words.{has_word}
 use Rattle.vlog_text.specs.Standing.{drives}
 use Rattle.vlog_names.specs.declared.firsts.Firsts.{Firsts}

@@ -1,8 +1,8 @@
 -- The lists of rules 4 and 5, part by part.
-use Rattle.std.proofs.Common.{◌≡◌, ℕ, Bool, true, false, not, ◌&&◌, List, [], ◌∷◌, ◌++◌, length, map, filter}
-use Rattle.std.proofs.Common.{Option, Some, None, refl, sym, ap, ◌∙◌}
+use Rattle.std.proofs.Common.{◌≡◌, ℕ, Bool, not, ◌&&◌, List, [], ◌++◌, map, filter}
+use Rattle.std.proofs.Common.{Option, Some, None, sym, ap, ◌∙◌}
 use Rattle.std.specs.Prelude.{◌||◌, is_some}
-use Rattle.std.specs.List.{list_any, filter_map, flat_map, position_from}
+use Rattle.std.specs.List.{filter_map, flat_map, position_from}
 use Rattle.std.proofs.lemmas.List.Folds.{list_any-append}
 use Rattle.pbs_base.specs.declared.refusal.Refusal.{Refusal}
 use Rattle.vlog_text.specs.declared.raw.RawName.{RawName}
@@ -19,7 +19,7 @@ use Rattle.vlog_names.specs.declared.firsts.Firsts.{Firsts}
 use Rattle.vlog_names.specs.declared.rows.Fault.{Fault}
 use Rattle.vlog_names.specs.declared.rows.Fault.TheVariants as fault
 use Rattle.vlog_names.specs.Names.{kinds_of, first_in, IsFirsts}
-use Rattle.vlog_names.specs.inner.Steps.{has_fault, is_any}
+use Rattle.vlog_names.specs.inner.Steps.{is_any}
 use Rattle.vlog_names.specs.inner.Rows.{faulty}
 use Rattle.vlog_names.proofs.Noting.{noted_both, faulty_both}
 use Rattle.vlog_names.proofs.KindLemmas.{any_is, inner_is, held_is}

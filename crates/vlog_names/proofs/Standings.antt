@@ -1,12 +1,11 @@
 -- What words stand for.
-use Rattle.std.proofs.Common.{◌≡◌, ℕ, zero, suc, ◌+◌, ◌<◌, ◌≤◌, Bool, true, false, cond, List, [], ◌∷◌, ◌++◌, length}
+use Rattle.std.proofs.Common.{◌≡◌, ℕ, suc, ◌+◌, ◌<◌, Bool, true, false, cond, List, [], ◌∷◌, length}
 use Rattle.std.proofs.Common.{map}
 use Rattle.std.proofs.Common.{filter, Option, Some, None, refl, sym, ap, ◌∙◌, arith}
 use Rattle.std.specs.Prelude.{unwrap_or, min}
 use Rattle.std.proofs.lemmas.List.{length-map}
 use Rattle.std.proofs.lemmas.Option.{same_Some}
 use Rattle.std.specs.List.{cons_option, filter_map, position_from}
-use Rattle.net_core.specs.declared.gate.Wire.{Wire}
 use Rattle.net_core.specs.declared.gate.Wire.TheVariants as wire
 use Rattle.vlog_text.specs.declared.raw.RawName.{RawName}
 use Rattle.vlog_text.specs.declared.raw.RawDecl.{RawDecl}
@@ -14,7 +13,8 @@ use Rattle.vlog_text.specs.declared.raw.RawGate.{RawGate}
 use Rattle.vlog_text.specs.declared.raw.RawReg.{RawReg}
 use Rattle.vlog_text.specs.declared.raw.RawNetlist.{RawNetlist}
 use Rattle.vlog_text.specs.Words.{has_word, target_name}
-use Rattle.vlog_text.specs.Standing.{drives, is_input, is_output, is_reg, is_declared, is_plain_input, inputs, registers, driver}
+use Rattle.vlog_text.specs.Standing.{drives, is_input, is_output, is_reg, is_declared, is_plain_input, inputs}
+use Rattle.vlog_text.specs.Standing.{registers, driver}
 use Rattle.vlog_text.specs.Standing.{number_of, word_wire}
 use Rattle.vlog_names.specs.declared.firsts.Firsts.{Firsts}
 use Rattle.vlog_names.specs.declared.kinds.Kinds.{Kinds}

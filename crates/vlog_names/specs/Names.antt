@@ -1,16 +1,14 @@
 -- What the tables of names tell.
-use Rattle.std.specs.Prelude.{◌≡◌, ℕ, Bool, true, false, not, ◌&&◌, ◌||◌, ◌==◌, List, [], ◌∷◌, filter_map, Option}
-use Rattle.std.specs.Prelude.{Some, None}
-use Rattle.std.specs.Prelude.{unwrap_or, if◌then◌else◌, map, is_some}
+use Rattle.std.specs.Prelude.{◌≡◌, ℕ, Bool, true, false, not, ◌&&◌, ◌||◌, ◌==◌, List, Option}
+use Rattle.std.specs.Prelude.{unwrap_or}
 use Rattle.std.specs.List.{list_any, position_from}
-use Rattle.std.specs.Str.{bytes_eq}
 use Rattle.std.specs.HashMap.{get}
 use Rattle.std.specs.Cmp.Lexicographic.{pointwise}
 use Rattle.vlog_text.specs.declared.raw.DeclKind.{DeclKind}
 use Rattle.vlog_text.specs.declared.raw.DeclKind.TheVariants as kind
 use Rattle.vlog_text.specs.declared.raw.RawName.{RawName}
 use Rattle.vlog_text.specs.declared.raw.RawDecl.{RawDecl}
-use Rattle.vlog_text.specs.Words.{has_word, is_named}
+use Rattle.vlog_text.specs.Words.{has_word}
 use Rattle.vlog_text.specs.Standing.{drives, is_input, is_output, is_reg, is_clock, is_reset}
 use Rattle.vlog_names.specs.declared.firsts.Firsts.{Firsts}
 use Rattle.vlog_names.specs.declared.kinds.Kinds.{Kinds}

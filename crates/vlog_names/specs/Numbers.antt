@@ -1,16 +1,14 @@
 -- The numbers of names, as the tables have them.
-use Rattle.std.specs.Prelude.{◌≡◌, ℕ, ◌<◌, min, Bool, List, map, Option, Some, None, unwrap_or, if◌then◌else◌}
+use Rattle.std.specs.Prelude.{◌≡◌, ℕ, ◌<◌, min, Bool, List, map, Option, Some, unwrap_or}
 use Rattle.net_core.specs.declared.gate.Wire.{Wire}
 use Rattle.net_core.specs.declared.gate.Wire.TheVariants as wire
 use Rattle.net_core.specs.declared.gate.Gate as gate
 use Rattle.vlog_text.specs.declared.raw.RawName.{RawName}
-use Rattle.vlog_text.specs.declared.raw.RawDecl.{RawDecl}
 use Rattle.vlog_text.specs.declared.raw.RawGate.{RawGate}
 use Rattle.vlog_text.specs.declared.raw.RawReg.{RawReg}
 use Rattle.vlog_text.specs.declared.raw.RawNetlist.{RawNetlist}
 use Rattle.vlog_text.specs.Words.{target_name}
-use Rattle.vlog_text.specs.Standing.{is_reg, inputs, registers, resolved}
-use Rattle.vlog_names.specs.declared.kinds.Kinds.{Kinds}
+use Rattle.vlog_text.specs.Standing.{inputs, registers}
 use Rattle.vlog_names.specs.declared.wires.Numbers.{Numbers}
 use Rattle.vlog_names.specs.Names.{first_in, kinds_in, is_plain, IsFirsts, KnowsKinds}
 

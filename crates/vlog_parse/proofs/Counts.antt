@@ -20,7 +20,7 @@ use Rattle.vlog_text.specs.Grammar.{or_tokens, ItemPhrase, Declare, ManyGate, Si
 use Rattle.vlog_text.specs.Grammar.{ItemsPhrase, NoItems, MoreItems, items_tokens, TextPhrase, names_tokens}
 use Rattle.vlog_text.specs.Grammar.{text_tokens}
 use Rattle.vlog_text.specs.Grammar.{token}
-use Rattle.vlog_text.specs.Lexing.{first_piece, lex, tokens, with_token, with_piece}
+use Rattle.vlog_text.specs.Lexing.{first_piece, lex, with_token, with_piece}
 use Rattle.vlog_text.specs.Reading.{IsRead}
 use Rattle.vlog_text.specs.Trees.{Parts, parts, joined, unit_part, and_parts, xor_parts, or_parts, driving}
 use Rattle.vlog_text.specs.Trees.{assign_gates}

@@ -3,6 +3,7 @@
 
 mod fail;
 mod gates;
+pub mod laws;
 mod parse;
 mod piece;
 mod stack;
@@ -13,4 +14,4 @@ mod units;
 mod words;
 
 pub use fail::ParseFail;
-pub use parse::{one_parse, parse_netlist, read_is_raw};
+pub use parse::parse_netlist;

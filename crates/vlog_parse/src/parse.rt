@@ -1,15 +1,10 @@
 // Whole texts.
-ghost use Rattle.std.specs.Prelude.{ℕ, List, ◌≡◌, ◌≤◌, length, IfOk, IfErr};
+ghost use Rattle.std.specs.Prelude.{◌≡◌, ◌≤◌, length, IfOk, IfErr};
 ghost use Rattle.vlog_parse.specs.declared.fail.ParseFail.TheVariants as answers;
-ghost use Rattle.pbs_base.specs.declared.refusal.Refusal.{Refusal};
-ghost use Rattle.vlog_text.specs.Grammar.{TextPhrase};
-ghost use Rattle.vlog_text.specs.Raw.{IsRaw};
-ghost use Rattle.vlog_text.specs.Reading.{IsRead};
 ghost use Rattle.vlog_text.specs.Refusing.{refusal};
-ghost use Rattle.vlog_text.specs.Trees.{raw_of};
 ghost use Rattle.vlog_parse.specs.inner.Machine as machine;
 ghost use Rattle.vlog_parse.specs.inner.Machine.{IsFound};
-ghost use Rattle.vlog_parse.specs.Parsed.{IsReadAs, IsUnreadable, StopsReading, Parses};
+ghost use Rattle.vlog_parse.specs.Parsed.{IsReadAs, StopsReading, Parses};
 
 use crate::fail::ParseFail;
 use crate::state::{Fixed, Found, State};
@@ -109,18 +104,6 @@ fn read(alloc: Global, bytes: &[u8], tokens: &[Token], end: u32) -> Result<RawNe
         Err(refused(3, Span { start: end, end }))
     }
 }
-
-/// A text is read as one phrase, or refused in one way by rules 1 to 3, and not both.
-pub fn one_parse()
-    ensures read { (bytes : List ℕ) (p q : TextPhrase) → IsRead bytes p → IsRead bytes q → p ≡ q }
-    ensures refused { (bytes : List ℕ) (q r : Refusal) → IsUnreadable bytes q → IsUnreadable bytes r → q ≡ r }
-    ensures neither { (bytes : List ℕ) (p : TextPhrase) (r : Refusal) → IsRead bytes p → IsUnreadable bytes r → ⊥ }
-{}
-
-/// What a text is read as is a raw netlist, with fewer gates and registers than 2^32 - 1.
-pub fn read_is_raw()
-    ensures { (bytes : List ℕ) (p : TextPhrase) → IsRead bytes p → IsRaw (raw_of bytes p) }
-{}
 
 /// The netlist of names that the text is, or the first broken rule of 1 to 3.
 pub fn parse_netlist(alloc: Global, bytes: &[u8]) -> Result<RawNetlist, ParseFail>

@@ -36,8 +36,8 @@ module _ (raw : RawNetlist) (r : IsRaw raw) (u : Unbroken raw) where
 
   from_gate : (n : ℕ) (g : gate.Gate) → slice_get (reordered (text_gates raw) (the_order raw)) n ≡ Some g → FromGate g
   from_gate n g at =
-      let k = filter_map_has (λ n. option_map (moved (place_in (the_order raw))) (slice_get (text_gates raw) n)) (the_order raw) g
-      (record { place = n; is = at }) in
+      let k = filter_map_has (λ n. option_map (moved (place_in (the_order raw))) (slice_get (text_gates raw) n))
+      (the_order raw) g (record { place = n; is = at }) in
       go k.0 (slice_get (text_gates raw) k.0) refl k.2
     where
       go : (k : ℕ) (o : Option gate.Gate) → slice_get (text_gates raw) k ≡ o
@@ -69,8 +69,10 @@ module _ (raw : RawNetlist) (r : IsRaw raw) (u : Unbroken raw) where
             (subst (λ n. HasItsPins f.from.kind n) (sym (long f.from.pins)) (r.gates_fit f.place f.from f.at).count);
       }
     where
-      long : (pins : List RawPin) → length (map (renumbered (place_in (the_order raw))) (map (pin_wire raw) pins)) ≡ length pins
-      long pins = length-map (map (pin_wire raw) pins) (renumbered (place_in (the_order raw))) ∙ length-map pins (pin_wire raw)
+      long : (pins : List RawPin)
+          → length (map (renumbered (place_in (the_order raw))) (map (pin_wire raw) pins)) ≡ length pins
+      long pins =
+          length-map (map (pin_wire raw) pins) (renumbered (place_in (the_order raw))) ∙ length-map pins (pin_wire raw)
 
   output_is : (n : ℕ) (o : Output) → slice_get (map (output_of raw) (outputs raw)) n ≡ Some o
       → (x : RawName) × (slice_get (outputs raw) n ≡ Some x) × (o ≡ output_of raw x)

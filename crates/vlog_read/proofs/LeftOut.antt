@@ -1,17 +1,9 @@
 -- The first gate that the order leaves out.
-use Rattle.std.proofs.Common.{◌≡◌, ℕ, zero, suc, ◌+◌, ◌-◌, ◌<◌, ◌≤◌, Bool, true, false, not, ◌&&◌, cond, List, [], ◌∷◌}
-use Rattle.std.proofs.Common.{◌++◌}
-use Rattle.std.proofs.Common.{length, map, filter, drop, Option, Some, None, get_or, refl, sym, ap, ◌∙◌, subst, arith}
-use Rattle.std.proofs.Common.{drop-cons, add-one}
-use Rattle.std.specs.List.{filter_map, flat_map}
-use Rattle.pbs_base.specs.declared.refusal.Refusal.{Refusal}
-use Rattle.vlog_text.specs.declared.raw.RawName.{RawName}
-use Rattle.vlog_text.specs.declared.raw.RawDecl.{RawDecl}
+use Rattle.std.proofs.Common.{◌≡◌, ℕ, zero, suc, ◌+◌, ◌<◌, ◌≤◌, true, false, cond, List, [], ◌∷◌}
+use Rattle.std.proofs.Common.{length, drop, refl, ap, ◌∙◌, arith}
 use Rattle.vlog_text.specs.declared.raw.RawGate.{RawGate}
-use Rattle.vlog_text.specs.declared.raw.Target.{Target}
-use Rattle.vlog_text.specs.declared.raw.Target.TheVariants as target
 use Rattle.vlog_text.specs.Orders.{is_among}
-use Rattle.vlog_text.specs.Refusing.{earliest, refusals, left_out, item_target, target_or, at_place}
+use Rattle.vlog_text.specs.Refusing.{left_out, item_target}
 
 pub left_out_is : (order : List ℕ) (n m : ℕ) (gates : List RawGate)
     → ((k : ℕ) → k < m → is_among order (n + k) ≡ true) → (m < length gates → is_among order (n + m) ≡ false)

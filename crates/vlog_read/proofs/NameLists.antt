@@ -300,7 +300,8 @@ once_differ before [] h = tt
 once_differ before (x ∷ xs) h =
     let rest = right_empty (cond (is_named before x.word) (x ∷ []) []) (repeated (before ++ x ∷ []) xs) h in (
       not_any (λ (y : RawName). bytes_eq x.word y.word) xs
-          (λ y has t. both_ways (is_named (before ++ x ∷ []) y.word) (fresh (before ++ x ∷ []) xs rest y has) (has_named (before ++ x ∷ []) y.word x (has_right before (x ∷ []) x (has_first x []))
+          (λ y has t. both_ways (is_named (before ++ x ∷ []) y.word) (fresh (before ++ x ∷ []) xs rest y has)
+          (has_named (before ++ x ∷ []) y.word x (has_right before (x ∷ []) x (has_first x []))
           (same_word x.word y.word t))),
       once_differ (before ++ x ∷ []) xs rest,
     )

@@ -1,6 +1,6 @@
 -- The order so far, and what is left.
 use Rattle.std.proofs.Common.{◌≡◌, ℕ, zero, suc, ◌+◌, ◌-◌, ◌<◌, inl, inr, Bool, true, false, List, [], ◌∷◌, ◌++◌}
-use Rattle.std.proofs.Common.{length, Option, Some, None, set, take, refl, sym, ap, ◌∙◌, subst, arith, get_or-set_other}
+use Rattle.std.proofs.Common.{length, None, set, take, refl, sym, ap, ◌∙◌, arith, get_or-set_other}
 use Rattle.std.proofs.Common.{get_or-set_same, length-set}
 use Rattle.std.specs.Prelude.{nat_eq, ◌||◌}
 use Rattle.std.specs.Ordering.{nat_cmp}

@@ -1,7 +1,7 @@
 -- The parts of the netlist that the raw netlist stands for.
 use Rattle.std.proofs.Common.{◌≡◌, ℕ, zero, suc, ◌+◌, ◌≤◌, Bool, true, false, not, ◌&&◌, cond, List, [], ◌∷◌, ◌++◌}
 use Rattle.std.proofs.Common.{length, map, filter, Option, Some, None, refl, sym, ap, ◌∙◌, arith}
-use Rattle.std.specs.Prelude.{slice_get, slice_index, unwrap_or}
+use Rattle.std.specs.Prelude.{slice_get, slice_index}
 use Rattle.std.specs.List.{find, position_from}
 use Rattle.std.proofs.lemmas.List.{length-map}
 use Rattle.std.proofs.lemmas.Option.{same_Some}
@@ -14,7 +14,7 @@ use Rattle.vlog_text.specs.declared.raw.RawName.{RawName}
 use Rattle.vlog_text.specs.declared.raw.RawGate.{RawGate}
 use Rattle.vlog_text.specs.declared.raw.RawReg.{RawReg}
 use Rattle.vlog_text.specs.declared.raw.RawNetlist.{RawNetlist}
-use Rattle.vlog_text.specs.Words.{has_word, target_name, repeated, decl_names, is_named, uses}
+use Rattle.vlog_text.specs.Words.{has_word, repeated, decl_names, is_named, uses}
 use Rattle.vlog_text.specs.Orders.{place_in, renumbered, reordered}
 use Rattle.vlog_text.specs.Refusing.{refusals, rule_4, rule_5, rule_6, rule_7, rule_8, declared, first_broken}
 use Rattle.vlog_text.specs.Standing.{is_declared, is_port, inputs, outputs, output_of, net_of}
@@ -24,34 +24,27 @@ use Rattle.vlog_names.specs.declared.wires.Numbers.{Numbers}
 use Rattle.vlog_names.specs.Numbers.{AreNumbers, capped, capped_gate, names_input, names_output}
 use Rattle.vlog_names.specs.Numbers.{driver_in, always_in}
 use Rattle.vlog_names.proofs.Standings.{input_is, output_is, driver_is, always_is}
+use Rattle.vlog_read.proofs.NameLists.{left_empty, right_empty}
 use Rattle.vlog_read.proofs.Earliest.{unrefused_is}
 use Rattle.vlog_read.specs.inner.Parts.{IsChecked, ArePlaces, output_at}
 use Rattle.vlog_read.proofs.Capping.{capped_pin, uncapped}
 
 -- ---- no port is listed twice
 
-front_empty : {X : Type 0} (xs ys : List X) → xs ++ ys ≡ [] → xs ≡ []
-front_empty [] ys e = refl
-front_empty (x ∷ xs) ys e = absurd (cc)
-
-rest_empty : {X : Type 0} (xs ys : List X) → xs ++ ys ≡ [] → ys ≡ []
-rest_empty [] ys e = e
-rest_empty (x ∷ xs) ys e = absurd (cc)
-
 no_refusals : (rule : ℕ) (names : List RawName) → refusals rule names ≡ [] → names ≡ []
 no_refusals rule [] e = refl
 no_refusals rule (x ∷ xs) e = absurd (cc)
 
 two_empty : {X : Type 0} (a b c d e : List X) → a ++ b ++ c ++ d ++ e ≡ [] → a ++ b ≡ []
-two_empty a b c d e h = front_empty (a ++ b) c (front_empty (a ++ b ++ c) d (front_empty (a ++ b ++ c ++ d) e h))
+two_empty a b c d e h = left_empty (a ++ b) c (left_empty (a ++ b ++ c) d (left_empty (a ++ b ++ c ++ d) e h))
 
 pub ports_once : (raw : RawNetlist) → first_broken raw ≡ None → repeated [] raw.ports ≡ []
 ports_once raw e =
     let rules : refusals 4 (rule_4 raw) ≡ [] =
-    front_empty (refusals 4 (rule_4 raw)) (refusals 5 (rule_5 raw))
+    left_empty (refusals 4 (rule_4 raw)) (refusals 5 (rule_5 raw))
     (two_empty (refusals 4 (rule_4 raw)) (refusals 5 (rule_5 raw)) (refusals 6 (rule_6 raw)) (refusals 7 (rule_7 raw))
     (refusals 8 (rule_8 raw)) (unrefused_is raw e)) in
-    rest_empty (repeated [] (decl_names raw)) (repeated [] raw.ports)
+    right_empty (repeated [] (decl_names raw)) (repeated [] raw.ports)
     (two_empty (repeated [] (decl_names raw)) (repeated [] raw.ports)
     (filter (λ (n : RawName). not (is_named (decl_names raw) n.word)) (uses raw))
     (filter (λ (n : RawName). is_declared raw (λ k. not (is_port k)) n.word) raw.ports)

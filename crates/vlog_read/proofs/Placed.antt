@@ -1,29 +1,19 @@
 -- The places of gates in the order.
-use Rattle.std.proofs.Common.{◌≡◌, ℕ, zero, suc, ◌+◌, ◌<◌, ◌≤◌, ◌⊎◌, inl, inr, cond, List, []}
-use Rattle.std.proofs.Common.{◌∷◌, ◌++◌, length, Option, Some, None, get_or}
-use Rattle.std.proofs.Common.{refl, sym, ap, ◌∙◌, arith, length-append}
+use Rattle.std.proofs.Common.{◌≡◌, ℕ, zero, suc, ◌+◌, ◌<◌, ◌≤◌, inl, inr, cond, List, []}
+use Rattle.std.proofs.Common.{◌∷◌, length, Some, None, get_or}
+use Rattle.std.proofs.Common.{refl, sym, ap, ◌∙◌, arith}
 use Rattle.std.specs.Prelude.{slice_get, slice_index, nat_eq, unwrap_or}
 use Rattle.std.specs.List.{position_from}
-use Rattle.std.proofs.lemmas.Bool.{ne_eqb}
+use Rattle.std.proofs.lemmas.Bool.{ne_eqb, cases_lt}
 use Rattle.std.proofs.lemmas.List.{length-map}
-use Rattle.net_core.specs.declared.gate.Gate as gate
 use Rattle.vlog_text.specs.declared.raw.RawNetlist.{RawNetlist}
-use Rattle.vlog_text.specs.Orders.{is_among, first_from, then_on, order_from, place_in}
+use Rattle.vlog_text.specs.Orders.{place_in}
 use Rattle.vlog_text.specs.Standing.{resolved, text_gates, the_order}
 use Rattle.vlog_read.proofs.TextGates.{order_below}
+use Rattle.vlog_read.proofs.Wired.{order_short}
 use Rattle.vlog_read.specs.inner.Parts.{ArePlaces}
 
 -- ---- how long the order is
-
-order_short : (gates : List gate.Gate) (left : ℕ) (taken : List ℕ)
-    → length (order_from gates left taken) ≤ length taken + left
-order_short gates zero taken = omega arith
-order_short gates (suc left) taken = go (first_from (is_among taken) zero gates) (λ n. order_short gates left (taken ++ n ∷ []))
-  where
-    go : (o : Option ℕ) → ((n : ℕ) → length (order_from gates left (taken ++ n ∷ [])) ≤ length (taken ++ n ∷ []) + left)
-        → length (then_on o taken (λ n. order_from gates left (taken ++ n ∷ []))) ≤ length taken + suc left
-    go None more = omega arith
-    go (Some n) more = omega (arith, more n, length-append taken (n ∷ []))
 
 pub order_few : (raw : RawNetlist) (order : List ℕ) → order ≡ the_order raw → length order ≤ length raw.gates
 order_few raw order e =
@@ -58,17 +48,11 @@ past_end [] n h = refl
 past_end (x ∷ xs) zero h = absurd (omega arith)
 past_end (x ∷ xs) (suc n) h = past_end xs n (omega arith)
 
-within_or_past : (n count : ℕ) → (n < count) ⊎ (count ≤ n)
-within_or_past n zero = inr (omega arith)
-within_or_past zero (suc count) = inl (omega arith)
-within_or_past (suc n) (suc count) =
-    elim (within_or_past n count) [ inl h ↦ inl (omega arith) | inr h ↦ inr (omega arith) ]
-
 pub are_places : (raw : RawNetlist) (count : ℕ) (order places : List ℕ) → order ≡ the_order raw
     → count ≡ length raw.gates → length places ≡ count
     → ((n : ℕ) → n < count → slice_index places n ≡ place_in order n) → ArePlaces raw places
 are_places raw count order places e all long placed = record {
-  each = λ n. elim (within_or_past n count) [
+  each = λ n. elim (cases_lt n count) [
     | inl h ↦ placed n h ∙ ap (λ o. place_in o n) e
     | inr h ↦
         past_end places n (omega arith)

@@ -1,11 +1,11 @@
 -- Where gates come to stand.
-use Rattle.std.proofs.Common.{◌≡◌, ℕ, zero, suc, ◌+◌, ◌<◌, ◌≤◌, inl, inr, Bool, true, false, not, ◌&&◌, cond, List, []}
+use Rattle.std.proofs.Common.{◌≡◌, ℕ, zero, suc, ◌+◌, ◌<◌, inl, inr, Bool, true, false, not, cond, List, []}
 use Rattle.std.proofs.Common.{◌∷◌, ◌++◌, length, map, take, Option, Some, None, get_or, refl, sym, ap, ◌∙◌, subst}
 use Rattle.std.proofs.Common.{arith, append_assoc, length-append}
 use Rattle.std.specs.Prelude.{slice_get, nat_eq, ◌||◌, unwrap_or}
-use Rattle.std.specs.List.{list_any, position_from, filter_map, cons_option}
+use Rattle.std.specs.List.{position_from, filter_map, cons_option}
 use Rattle.std.specs.Option.{option_map}
-use Rattle.std.proofs.lemmas.Bool.{eqb-true, ne_eqb, eq-eqb, and_parts, cases_Bool}
+use Rattle.std.proofs.lemmas.Bool.{and_parts, cases_Bool}
 use Rattle.std.proofs.lemmas.List.Elements.{filter_map-append}
 use Rattle.std.proofs.lemmas.Grind.{common_steps}
 use Rattle.std.proofs.lemmas.List.{append-nil}
@@ -14,7 +14,7 @@ use Rattle.net_core.specs.declared.gate.Wire.{Wire}
 use Rattle.net_core.specs.declared.gate.Wire.TheVariants.{Const, Reset, Input, Reg, Gate}
 use Rattle.net_core.specs.declared.gate as netlist
 use Rattle.vlog_text.specs.Orders.{is_among, then_on}
-use Rattle.vlog_text.specs.Orders.{is_settled, all_settled, can_be_taken, first_from, order_from, order_of, place_in}
+use Rattle.vlog_text.specs.Orders.{all_settled, can_be_taken, first_from, order_from, order_of, place_in}
 use Rattle.vlog_text.specs.Orders.{renumbered, moved, reordered}
 use Rattle.vlog_text.proofs.OrderLemmas.{AreEarlier, each_settled}
 

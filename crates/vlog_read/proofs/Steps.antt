@@ -1,8 +1,8 @@
 -- Steps of the work that is left while gates are put in order.
-use Rattle.std.proofs.Common.{◌≡◌, ℕ, zero, suc, ◌+◌, ◌<◌, ◌≤◌, ◌⊎◌, inl, inr, Bool, true, false, not, ◌&&◌, List, []}
-use Rattle.std.proofs.Common.{◌∷◌, ◌++◌, length, Option, Some, None, get_or, set, refl, sym, ap, ◌∙◌, subst, arith}
+use Rattle.std.proofs.Common.{◌≡◌, ℕ, zero, suc, ◌<◌, ◌≤◌, ◌⊎◌, inl, inr, Bool, true, false, not, ◌&&◌, List, []}
+use Rattle.std.proofs.Common.{◌∷◌, ◌++◌, length, Some, None, refl, sym, ap, ◌∙◌, subst, arith}
 use Rattle.std.proofs.Common.{get_or-set_other, get_or-set_same, length-set}
-use Rattle.std.specs.Prelude.{slice_get, slice_set, slice_index_or, nat_eq}
+use Rattle.std.specs.Prelude.{slice_get, slice_set, slice_index_or}
 use Rattle.std.specs.Ordering.{nat_cmp}
 use Rattle.std.specs.BTreeSet.{BTreeSet, contains, Updates, IsLowerBound}
 use Rattle.std.proofs.lemmas.Option.{same_Some, slice_get_within}
@@ -12,7 +12,7 @@ use Rattle.net_core.specs.declared.gate.Wire.TheVariants.{Const, Reset, Input, R
 use Rattle.net_core.specs.declared.gate as netlist
 use Rattle.vlog_read.specs.declared.waiting.Waiter.{Waiter}
 use Rattle.vlog_text.specs.Orders.{is_settled, all_settled, can_be_taken, first_from}
-use Rattle.vlog_read.specs.inner.Queues.{Has, SettledBetween, IsReady, IsWaiter, WaitsFor, IsWaiting, IsQueue, without}
+use Rattle.vlog_read.specs.inner.Queues.{Has, SettledBetween, IsReady, IsWaiter, WaitsFor, IsQueue, without}
 use Rattle.vlog_read.specs.inner.Queues.{wakes}
 use Rattle.vlog_read.proofs.Tests.{set_same, set_other, least_le}
 use Rattle.vlog_read.proofs.Tests.{without_other, wakes_has}
@@ -141,7 +141,8 @@ module _ (gates : List netlist.Gate.Gate) (taken taken' : ℕ → Bool) (ready r
 
   apart_in : (n : ℕ) → contains nat_cmp ready' n ≡ true → n ≡ k → ⊥
   apart_in n h e =
-      both_ways (contains nat_cmp ready' k) (set_same ready ready' k false update) (ap (λ j. contains nat_cmp ready' j) (sym e) ∙ h)
+      both_ways (contains nat_cmp ready' k) (set_same ready ready' k false update)
+      (ap (λ j. contains nat_cmp ready' j) (sym e) ∙ h)
 
   apart_free : (n : ℕ) → taken' n ≡ false → n ≡ k → ⊥
   apart_free n h e = both_ways (taken' k) (ap taken' (sym e) ∙ h) m.here
@@ -170,7 +171,8 @@ module _ (gates : List netlist.Gate.Gate) (taken taken' : ℕ → Bool) (ready r
         let w = q.others_wait n within (sym (m.others n ne) ∙ free)
         (sym (set_other ready ready' k n false update ne) ∙ out) refl in
         elim (cases_eq w.awaited k) [
-          | inl e ↦ absurd (both_ways (wakes (slice_index_or waiting k []) n) calm (wakes_has (slice_index_or waiting k []) w.waiter n
+          | inl e ↦ absurd (both_ways (wakes (slice_index_or waiting k []) n) calm
+              (wakes_has (slice_index_or waiting k []) w.waiter n
               (subst (λ j. Has (slice_index_or waiting j []) w.waiter) e w.listed) w.same))
           | inr apart ↦ record {
             awaited = w.awaited;
@@ -219,7 +221,8 @@ module _ (gates : List netlist.Gate.Gate) (taken : ℕ → Bool) (ready ready' :
     waiters_are = q.waiters_are;
     others_wait = λ n within free out calm.
         let ne : n ≡ w.gate → ⊥
-        = λ e. both_ways (contains nat_cmp ready' w.gate) (ap (λ j. contains nat_cmp ready' j) (sym e) ∙ out) (set_same ready ready' w.gate true update) in
+        = λ e. both_ways (contains nat_cmp ready' w.gate) (ap (λ j. contains nat_cmp ready' j) (sym e) ∙ out)
+        (set_same ready ready' w.gate true update) in
         q.others_wait n within free (sym (set_other ready ready' w.gate n true update ne) ∙ out)
         (without_other pending w.gate n ne calm);
   }

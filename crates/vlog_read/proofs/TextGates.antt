@@ -1,15 +1,14 @@
 -- The gates as the text has them.
-use Rattle.std.proofs.Common.{◌≡◌, ℕ, zero, suc, ◌+◌, ◌<◌, ◌≤◌, Bool, true, false, not, ◌&&◌, cond, List, [], ◌∷◌, ◌++◌}
+use Rattle.std.proofs.Common.{◌≡◌, ℕ, zero, suc, ◌<◌, Bool, true, false, not, ◌&&◌, cond, List, [], ◌∷◌, ◌++◌}
 use Rattle.std.proofs.Common.{length}
-use Rattle.std.proofs.Common.{map, Option, Some, None, refl, sym, ap, ◌∙◌, subst, arith}
-use Rattle.std.specs.Prelude.{slice_get, unwrap_or, min}
+use Rattle.std.proofs.Common.{map, Option, Some, None, refl, sym, ap, ◌∙◌, arith}
+use Rattle.std.specs.Prelude.{slice_get, unwrap_or}
 use Rattle.std.specs.List.{position_from}
 use Rattle.std.proofs.lemmas.Option.{same_Some, slice_get_within}
 use Rattle.std.proofs.lemmas.List.{length-map}
 use Rattle.net_core.specs.declared.gate.Wire.{Wire}
 use Rattle.net_core.specs.declared.gate.Wire.TheVariants as wire
 use Rattle.net_core.specs.declared.gate.Gate as gate
-use Rattle.vlog_text.specs.declared.raw.RawName.{RawName}
 use Rattle.vlog_text.specs.declared.raw.RawGate.{RawGate}
 use Rattle.vlog_text.specs.declared.raw.RawNetlist.{RawNetlist}
 use Rattle.vlog_text.specs.declared.raw.RawPin.{RawPin}
@@ -18,7 +17,7 @@ use Rattle.vlog_text.specs.Raw.{IsRaw}
 use Rattle.vlog_text.specs.Words.{target_name}
 use Rattle.vlog_text.specs.Orders.{is_among, is_settled, all_settled, can_be_taken, first_from, then_on, order_from}
 use Rattle.vlog_text.specs.Orders.{order_of}
-use Rattle.vlog_text.specs.Standing.{drives, driver, word_wire, pin_wire, resolved, text_gates, the_order}
+use Rattle.vlog_text.specs.Standing.{drives, driver, pin_wire, resolved, text_gates, the_order}
 use Rattle.vlog_text.specs.Standing.{number_of, inputs, registers, is_plain_input, is_declared, is_input, is_reg}
 use Rattle.vlog_read.specs.inner.Named.{AllNamed}
 use Rattle.vlog_names.specs.Numbers.{capped, capped_gate}

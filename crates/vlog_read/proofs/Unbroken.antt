@@ -181,7 +181,8 @@ module _ (raw : RawNetlist) (u : Unbroken raw) where
       either true s h = s
       either false s h =
           let n = named_has (reg_targets raw) w h in
-          absurd (both_ways (is_declared raw is_reg w) unreg (subst (λ v. is_declared raw is_reg v ≡ true) n.2 (u.regs_drive n.0 n.1)))
+          absurd (both_ways (is_declared raw is_reg w) unreg
+          (subst (λ v. is_declared raw is_reg v ≡ true) n.2 (u.regs_drive n.0 n.1)))
 
   pub register_driven : (w : List ℕ) → is_declared raw is_reg w ≡ true → is_named (reg_targets raw) w ≡ true
   register_driven w reg =
@@ -201,12 +202,15 @@ module _ (raw : RawNetlist) (u : Unbroken raw) where
           → is_named (reg_targets raw) w ≡ true
       either true s h =
           let n = named_has (gate_targets raw) w s in
-          absurd (both_ways (is_declared raw (λ k. is_input k || is_reg k) w) (subst (λ v. is_declared raw (λ k. is_input k || is_reg k) v ≡ false) n.2 (u.gates_drive n.0 n.1)) (other_declared raw is_reg (λ k. is_input k || is_reg k) (λ k r. or_right (is_input k) (is_reg k) r) w reg))
+          absurd (both_ways (is_declared raw (λ k. is_input k || is_reg k) w)
+          (subst (λ v. is_declared raw (λ k. is_input k || is_reg k) v ≡ false) n.2 (u.gates_drive n.0 n.1))
+          (other_declared raw is_reg (λ k. is_input k || is_reg k) (λ k r. or_right (is_input k) (is_reg k) r) w reg))
       either false s h = h
 
   pub input_listed : (w : List ℕ) → is_plain_input raw w ≡ true → is_named (inputs raw) w ≡ true
   input_listed w h =
-      let d = declared_has raw is_input w ((and_parts (is_declared raw is_input w) (not (is_clock w || is_reset w)) h).0) in
+      let d = declared_has raw is_input w
+      (and_parts (is_declared raw is_input w) (not (is_clock w || is_reset w)) h).0 in
       let n = named_has raw.ports d.0.name.word
       (u.ports_listed d.0 d.1 (or_left (is_input d.0.kind) (is_output d.0.kind) d.2)) in
       has_named (inputs raw) w n.0

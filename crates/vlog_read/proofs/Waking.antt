@@ -1,16 +1,13 @@
 -- Waiters that are settled one by one.
-use Rattle.std.proofs.Common.{◌≡◌, ℕ, zero, suc, ◌+◌, ◌<◌, ◌≤◌, inl, inr, Bool, true, false, not, ◌&&◌, List, [], ◌∷◌}
-use Rattle.std.proofs.Common.{◌++◌, length, Option, Some, None, get_or, set, take, drop, replicate, refl, sym, ap, ◌∙◌}
+use Rattle.std.proofs.Common.{◌≡◌, ℕ, zero, suc, ◌+◌, ◌<◌, Bool, true, false, not, ◌&&◌, List}
+use Rattle.std.proofs.Common.{length, get_or, set, drop, replicate, refl, sym, ap, ◌∙◌}
 use Rattle.std.proofs.Common.{subst, arith, get_or-set_other, get_or-set_same, drop-cons, add-one}
-use Rattle.std.specs.Prelude.{slice_get, nat_eq, nat_le, ◌||◌}
+use Rattle.std.specs.Prelude.{nat_eq, nat_le, ◌||◌}
 use Rattle.std.specs.BTreeSet.{BTreeSet}
-use Rattle.std.proofs.lemmas.Bool.{eqb-true, ne_eqb, eq-eqb, cases_Bool}
 use Rattle.std.proofs.lemmas.Bool.Decides.{nat_tests}
-use Rattle.std.proofs.lemmas.List.{get_or-replicate}
-use Rattle.std.proofs.Math.Seq.{take-append_seam}
 use Rattle.net_core.specs.declared.gate as netlist
 use Rattle.vlog_read.specs.declared.waiting.Waiter.{Waiter}
-use Rattle.vlog_read.specs.inner.Queues.{marked, SettledBetween, IsWaiter, IsQueue, without, wakes}
+use Rattle.vlog_read.specs.inner.Queues.{marked, IsWaiter, IsQueue, without, wakes}
 use Rattle.vlog_text.proofs.OrderLemmas.{some_at}
 use Rattle.vlog_read.proofs.Steps.{fewer_pending, Marks}
 

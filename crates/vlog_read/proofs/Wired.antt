@@ -73,10 +73,11 @@ none_left order n (g ∷ gs) last e k within =
 
 -- ---- the order's length
 
-order_short : (gates : List gate.Gate) (left : ℕ) (taken : List ℕ)
+pub order_short : (gates : List gate.Gate) (left : ℕ) (taken : List ℕ)
     → length (order_from gates left taken) ≤ length taken + left
 order_short gates zero taken = omega arith
-order_short gates (suc left) taken = go (first_from (is_among taken) zero gates) (λ n. order_short gates left (taken ++ n ∷ []))
+order_short gates (suc left) taken =
+    go (first_from (is_among taken) zero gates) (λ n. order_short gates left (taken ++ n ∷ []))
   where
     go : (o : Option ℕ) → ((n : ℕ) → length (order_from gates left (taken ++ n ∷ [])) ≤ length (taken ++ n ∷ []) + left)
         → length (then_on o taken (λ n. order_from gates left (taken ++ n ∷ []))) ≤ length taken + suc left
@@ -107,8 +108,8 @@ gate_count raw = length (reordered (text_gates raw) (the_order raw))
 
 pub ordered_count : (raw : RawNetlist) → gate_count raw ≡ length (the_order raw)
 ordered_count raw =
-    filter_map_long (λ n. option_map (moved (place_in (the_order raw))) (slice_get (text_gates raw) n)) (the_order raw) (λ n has.
-    let g = some_at (text_gates raw) n
+    filter_map_long (λ n. option_map (moved (place_in (the_order raw))) (slice_get (text_gates raw) n)) (the_order raw)
+    (λ n has. let g = some_at (text_gates raw) n
     (order_there (text_gates raw) has.place n has.is) in
     (moved (place_in (the_order raw)) g.0, ap (λ o. option_map (moved (place_in (the_order raw))) o) g.1))
 
@@ -243,19 +244,22 @@ module _ (raw : RawNetlist) (r : IsRaw raw) (u : Unbroken raw) where
       let same : d.0.name.word ≡ w = ap (λ (n : RawName). n.word) (sym d.2) ∙ n.2 in
       gate_driven raw u w d.0 has same
       (elim (cases_Bool (is_input d.0.kind)) [
-        | inl t ↦ absurd (both_ways (is_declared raw is_input w) g.no_input (has_declared raw is_input w d.0 has t same))
+        | inl t ↦
+            absurd (both_ways (is_declared raw is_input w) g.no_input (has_declared raw is_input w d.0 has t same))
         | inr f ↦ f
       ]) g.no_register
 
   operand_there : (p : RawPin) → IsOperand p → ((n : RawName) → pin_name p ≡ Some n → Has (uses raw) n)
-      → IsThere (input_count raw) (register_count raw) (gate_count raw) (renumbered (place_in (the_order raw)) (pin_wire raw p))
+      → IsThere (input_count raw) (register_count raw) (gate_count raw)
+      (renumbered (place_in (the_order raw)) (pin_wire raw p))
   operand_there (pin.Const b) h used = tt
   operand_there (pin.Prior k) h used = absurd h
   operand_there (pin.Name name) h used = elim (word_there name.word) [
     | inl t ↦ still_there (input_count raw) (register_count raw) (gate_count raw) (place_in (the_order raw))
         (word_wire raw name.word) t
     | inr g ↦
-        subst (λ x. IsThere (input_count raw) (register_count raw) (gate_count raw) (renumbered (place_in (the_order raw)) x))
+        subst (λ x. IsThere (input_count raw) (register_count raw) (gate_count raw)
+        (renumbered (place_in (the_order raw)) x))
         (sym g.is)
         (driver_there name.word (gate_word name.word (u.uses_declared name (used name refl)) g))
   ]
@@ -283,7 +287,8 @@ module _ (raw : RawNetlist) (r : IsRaw raw) (u : Unbroken raw) where
       gate_driven raw u n.word d.0 d.1 d.3 (no_input d.0.kind d.2)
       (elim (cases_Bool (is_declared raw is_reg n.word)) [
         | inl t ↦
-            absurd (both_ways (is_declared raw (λ k. not (is_port k)) n.word) (u.ports_are n port.0) (other_declared raw is_reg (λ k. not (is_port k)) no_port n.word t))
+            absurd (both_ways (is_declared raw (λ k. not (is_port k)) n.word) (u.ports_are n port.0)
+            (other_declared raw is_reg (λ k. not (is_port k)) no_port n.word t))
         | inr f ↦ f
       ])
     where

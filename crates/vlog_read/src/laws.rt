@@ -4,7 +4,7 @@ ghost use Rattle.pbs_base.specs.declared.refusal.Refusal.{Refusal};
 ghost use Rattle.net_core.specs.Circuits.{Circuit, IsCircuit};
 ghost use Rattle.vlog_text.specs.Reading.{IsRefusedBy, StandsFor};
 
-use vlog_parse::{one_parse, read_is_raw};
+use vlog_parse::laws::{one_parse, read_is_raw};
 
 /// A text stands for one netlist, or is refused in one way, and not both.
 pub fn one_answer()

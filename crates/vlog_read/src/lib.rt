@@ -1,5 +1,5 @@
-//! Reads netlists from their text as structural Verilog: the netlist that a text stands for, or the first of rules 1 to 8
-//! that it breaks.
+//! Reads netlists from their text as structural Verilog: the netlist that a text stands for, or the first of rules 1 to
+//! 8 that it breaks.
 #![tactic(auto)]
 
 mod assemble;

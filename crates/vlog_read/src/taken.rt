@@ -1,5 +1,6 @@
 // Rule 6: gates that are never taken.
-ghost use Rattle.std.specs.Prelude.{◌≡◌, ◌≤◌, ◌<◌, ℕ, List, [], ◌∷◌, None, Some, true, false, drop, length, IfOk, slice_get};
+ghost use Rattle.std.specs.Prelude.{◌≡◌, ◌≤◌, ◌<◌, ℕ, List, [], ◌∷◌, None, Some, true, false, drop, length, IfOk};
+ghost use Rattle.std.specs.Prelude.{slice_get};
 ghost use Rattle.vlog_text.specs.Orders.{is_among};
 ghost use Rattle.vlog_text.specs.Refusing.{earliest, refusals, left_out, item_target};
 ghost use Rattle.vlog_read.specs.inner.Queues.{marked};

@@ -1,6 +1,6 @@
 -- Gates whose pins name earlier gates stand in order as they stood.
 use Rattle.std.proofs.Common.{◌≡◌, ℕ, zero, suc, ◌+◌, ◌-◌, ◌<◌, ◌≤◌, inl, inr, Bool, true, false, not, ◌&&◌, cond, List}
-use Rattle.std.proofs.Common.{[], ◌∷◌, ◌++◌, length, map, Option, Some, refl, sym, ap, ◌∙◌, arith}
+use Rattle.std.proofs.Common.{[], ◌∷◌, ◌++◌, length, map, Some, refl, ap, ◌∙◌, arith}
 use Rattle.std.specs.Prelude.{slice_get, nat_eq, ◌||◌, unwrap_or}
 use Rattle.std.specs.List.{position_from, filter_map, range_with_len, cons_option}
 use Rattle.std.specs.Option.{option_map}
@@ -11,8 +11,8 @@ use Rattle.net_core.specs.declared.gate.Wire.TheVariants as wire
 use Rattle.net_core.specs.declared.gate.Gate as gate
 use Rattle.net_core.specs.Circuits.{IsThere}
 use Rattle.vlog_text.specs.declared.raw.RawGate.{RawGate}
-use Rattle.vlog_text.specs.Orders.{is_among, is_settled, all_settled, first_from, then_on, order_from, order_of, place_in}
-use Rattle.vlog_text.specs.Orders.{renumbered, moved, reordered}
+use Rattle.vlog_text.specs.Orders.{is_among, is_settled, all_settled, first_from, then_on, order_from, order_of}
+use Rattle.vlog_text.specs.Orders.{place_in, renumbered, moved, reordered}
 use Rattle.vlog_text.specs.Refusing.{item_target, left_out}
 use Rattle.vlog_text.proofs.OrderLemmas.{AreEarlier, some_at, settled_all, some_from}
 

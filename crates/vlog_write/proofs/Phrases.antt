@@ -32,8 +32,9 @@ use Rattle.vlog_write.proofs.Pieces.{Piece, Sign, Word, Stands}
 use Rattle.vlog_write.proofs.Shapes.{plain, word_of, bare_pin, bare_gate, bare_reg, Shape, shape, written_pin}
 use Rattle.vlog_write.proofs.Shapes.{written_gate, written_gates, written_reg, written_regs}
 use Rattle.vlog_write.proofs.Shapes.{all_decls, IsRawOf}
-use Rattle.vlog_write.proofs.LinePieces.{listed_pieces, end_pieces, decls_pieces, operand_piece, pins_pieces, gate_pieces}
-use Rattle.vlog_write.proofs.LinePieces.{gates_pieces, always_pieces, regs_pieces, last_pieces, later_decls, items_pieces}
+use Rattle.vlog_write.proofs.LinePieces.{listed_pieces, end_pieces, decls_pieces, operand_piece, pins_pieces}
+use Rattle.vlog_write.proofs.LinePieces.{gate_pieces, gates_pieces, always_pieces, regs_pieces, last_pieces, later_decls}
+use Rattle.vlog_write.proofs.LinePieces.{items_pieces}
 use Rattle.vlog_write.proofs.LinePieces.{clock_pieces, all_pieces}
 
 abbrev named_at : Span → NamePhrase

@@ -1,5 +1,5 @@
 use Rattle.std.specs.Prelude.{codes}
-use Rattle.std.proofs.Common.{◌≡◌, ◌&&◌, ◌∷◌, [], List, cond, Bool, None, ap, ◌∙◌}
+use Rattle.std.proofs.Common.{◌&&◌, ◌∷◌, [], cond, None, ap, ◌∙◌}
 use Rattle.std.specs.Prelude.{filter}
 use Rattle.vlog_text.specs.declared.raw.RawName.{RawName}
 use Rattle.vlog_text.specs.Words.{operands}

@@ -1,4 +1,4 @@
-use Rattle.std.proofs.Common.{◌≡◌, List, map, filter, None, ap, ◌∙◌}
+use Rattle.std.proofs.Common.{List, map, filter, None, ap, ◌∙◌}
 use Rattle.vlog_text.specs.declared.raw.RawDecl.{RawDecl}
 use Rattle.vlog_text.specs.Refusing.{earliest, refusals, at_place}
 use Rattle.vlog_names.specs.declared.checks.Counted.TheVariants.{Inputs, Outputs}

@@ -1,10 +1,7 @@
-use Rattle.std.proofs.Common.{Some, get_or, arith, ap, ◌∙◌, length, [], ◌≡◌, ◌<◌}
-use Rattle.vlog_text.specs.declared.raw.RawName.{RawName}
+use Rattle.std.proofs.Common.{get_or, arith, ap}
 use Rattle.vlog_text.specs.declared.raw.RawGate.{RawGate}
-use Rattle.vlog_text.specs.declared.raw.RawReg.{RawReg}
-use Rattle.vlog_text.specs.Words.{target_name, repeated}
-use Rattle.vlog_text.specs.Refusing.{earliest, refusals}
-use Rattle.vlog_names.proofs.Entries.{entered_more, entered_firsts, entered_found, all_present, mapped_present}
+use Rattle.vlog_text.specs.Words.{target_name}
+use Rattle.vlog_names.proofs.Entries.{entered_more, entered_firsts, entered_found}
 use Rattle.vlog_names.proofs.entering.enter_gates.Goals as goal
 
 pub loop-place-preserved : goal.loop-place-preserved

@@ -1,9 +1,5 @@
 use Rattle.std.proofs.Common.{Some}
-use Rattle.vlog_text.specs.declared.raw.RawName.{RawName}
-use Rattle.vlog_text.specs.declared.raw.RawGate.{RawGate}
 use Rattle.vlog_text.specs.declared.raw.RawReg.{RawReg}
-use Rattle.vlog_text.specs.Words.{target_name, repeated}
-use Rattle.vlog_text.specs.Refusing.{earliest, refusals}
 use Rattle.vlog_names.proofs.Entries.{Entered}
 use Rattle.vlog_names.proofs.entering.enter_regs.Given as goal
 

@@ -1,4 +1,4 @@
-use Rattle.std.proofs.Common.{◌≡◌, ℕ, List, map, Some, subst, ap, ◌∙◌}
+use Rattle.std.proofs.Common.{List, map, Some, subst, ap, ◌∙◌}
 use Rattle.vlog_text.specs.declared.raw.RawName.{RawName}
 use Rattle.vlog_text.specs.declared.raw.RawDecl.{RawDecl}
 use Rattle.vlog_names.specs.Names.{kinds_in, kinds_of, IsFirsts}

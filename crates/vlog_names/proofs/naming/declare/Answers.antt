@@ -1,4 +1,4 @@
-use Rattle.std.proofs.Common.{◌≡◌, ◌<◌, length, arith, ap, ◌∙◌}
+use Rattle.std.proofs.Common.{arith, ap, ◌∙◌}
 use Rattle.vlog_names.specs.inner.Steps.{is_any}
 use Rattle.vlog_names.proofs.KindLemmas.{declared_more, declared_kinds, declared_found}
 use Rattle.vlog_names.proofs.naming.declare.Goals as goal

@@ -1,4 +1,3 @@
-use Rattle.vlog_text.specs.declared.raw.RawNetlist.{RawNetlist}
 use Rattle.vlog_names.specs.declared.rows.Fault.TheVariants.{Undeclared}
 use Rattle.vlog_names.specs.Names.{kinds_in}
 use Rattle.vlog_names.proofs.RuleLemmas.{uses_noted}

@@ -1,5 +1,5 @@
-use Rattle.std.proofs.Common.{◌≡◌, ◌<◌, List, Bool, length, map, filter, not, ◌&&◌, arith, ap, ◌∙◌}
-use Rattle.std.specs.Prelude.{◌||◌, is_some}
+use Rattle.std.proofs.Common.{List, Bool, map, filter, not, ◌&&◌, arith, ap, ◌∙◌}
+use Rattle.std.specs.Prelude.{is_some}
 use Rattle.vlog_text.specs.declared.raw.RawDecl.{RawDecl}
 use Rattle.vlog_text.specs.Standing.{is_port}
 use Rattle.vlog_text.specs.Refusing.{earliest, refusals}

@@ -1,5 +1,5 @@
 use Rattle.std.proofs.Common.{◌≡◌, map, filter, drop, not, ◌&&◌}
-use Rattle.std.specs.Prelude.{◌||◌, is_some}
+use Rattle.std.specs.Prelude.{is_some}
 use Rattle.vlog_text.specs.declared.raw.RawDecl.{RawDecl}
 use Rattle.vlog_text.specs.Standing.{is_port}
 use Rattle.vlog_text.specs.Refusing.{earliest, refusals}

@@ -1,5 +1,4 @@
-use Rattle.std.proofs.Common.{◌≡◌, ◌<◌, ◌+◌, Some, None, cond, length, arith, sym, ap, ◌∙◌, subst}
-use Rattle.std.specs.Prelude.{is_some}
+use Rattle.std.proofs.Common.{◌≡◌, ◌+◌, Some, None, cond, arith, sym, ap, ◌∙◌, subst}
 use Rattle.vlog_names.specs.Names.{kinds_in, is_plain}
 use Rattle.vlog_names.specs.inner.Steps.{Learns}
 use Rattle.vlog_names.specs.inner.Steps.{plain_name}

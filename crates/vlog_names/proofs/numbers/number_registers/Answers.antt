@@ -1,4 +1,4 @@
-use Rattle.std.proofs.Common.{◌≡◌, ◌<◌, ◌+◌, Some, None, cond, length, arith, sym, ap, ◌∙◌, subst}
+use Rattle.std.proofs.Common.{◌+◌, Some, None, cond, arith, sym, ap, ◌∙◌, subst}
 use Rattle.vlog_text.specs.Standing.{is_reg}
 use Rattle.vlog_names.specs.inner.Steps.{Learns}
 use Rattle.vlog_names.specs.inner.Steps.{reg_name}

@@ -4,7 +4,7 @@ use Rattle.vlog_text.specs.declared.raw.RawName.{RawName}
 use Rattle.vlog_text.specs.declared.raw.RawDecl.{RawDecl}
 use Rattle.vlog_text.specs.declared.raw.RawGate.{RawGate}
 use Rattle.vlog_text.specs.Words.{target_name}
-use Rattle.vlog_text.specs.Standing.{inputs, registers}
+use Rattle.vlog_text.specs.Standing.{registers}
 use Rattle.vlog_names.specs.Names.{kinds_in, IsFirsts}
 use Rattle.vlog_names.specs.inner.Steps.{plain_name, reg_name}
 use Rattle.vlog_names.proofs.Standings.{firsts_within, plain_names, reg_names}

@@ -1,14 +1,9 @@
-use Rattle.std.proofs.Common.{◌≡◌, ◌<◌, drop, map, List, arith, ap, ◌∙◌, length}
-use Rattle.std.specs.List.{filter_map, flat_map}
-use Rattle.vlog_text.specs.declared.raw.RawName.{RawName}
-use Rattle.vlog_text.specs.declared.raw.RawGate.{RawGate}
+use Rattle.std.proofs.Common.{List, arith, ◌∙◌}
+use Rattle.std.specs.List.{filter_map}
 use Rattle.vlog_text.specs.declared.raw.RawReg.{RawReg}
-use Rattle.vlog_text.specs.declared.raw.RawPin.{RawPin}
-use Rattle.vlog_text.specs.Words.{pin_name, target_name}
-use Rattle.vlog_text.specs.Refusing.{earliest, refusals}
+use Rattle.vlog_text.specs.Words.{pin_name}
 use Rattle.vlog_names.specs.Names.{kinds_in}
-use Rattle.vlog_names.specs.inner.Steps.{has_fault, when}
-use Rattle.vlog_names.specs.inner.Rows.{faulty, named_pin, named_target}
+use Rattle.vlog_names.specs.inner.Rows.{faulty, named_pin}
 use Rattle.vlog_names.proofs.Noting.{noted_more, data_opens}
 use Rattle.vlog_names.proofs.rows.note_data.Goals as goal
 

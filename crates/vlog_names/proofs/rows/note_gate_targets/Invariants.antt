@@ -1,14 +1,10 @@
-use Rattle.std.proofs.Common.{◌≡◌, drop, map}
-use Rattle.std.specs.List.{filter_map, flat_map}
-use Rattle.vlog_text.specs.declared.raw.RawName.{RawName}
+use Rattle.std.proofs.Common.{◌≡◌, drop}
+use Rattle.std.specs.List.{filter_map}
 use Rattle.vlog_text.specs.declared.raw.RawGate.{RawGate}
-use Rattle.vlog_text.specs.declared.raw.RawReg.{RawReg}
-use Rattle.vlog_text.specs.declared.raw.RawPin.{RawPin}
-use Rattle.vlog_text.specs.Words.{pin_name, target_name}
+use Rattle.vlog_text.specs.Words.{target_name}
 use Rattle.vlog_text.specs.Refusing.{earliest, refusals}
 use Rattle.vlog_names.specs.Names.{kinds_in}
-use Rattle.vlog_names.specs.inner.Steps.{has_fault, when}
-use Rattle.vlog_names.specs.inner.Rows.{faulty, named_pin, named_target}
+use Rattle.vlog_names.specs.inner.Rows.{faulty}
 use Rattle.vlog_names.proofs.rows.note_gate_targets.Given as goal
 
 abbrev pub invariant-loop-gate : goal.invariant-loop-gate

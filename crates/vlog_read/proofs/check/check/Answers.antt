@@ -1,4 +1,4 @@
-use Rattle.std.proofs.Common.{◌≡◌, ◌∙◌}
+use Rattle.std.proofs.Common.{◌∙◌}
 use Rattle.vlog_read.proofs.Earliest.{first_of}
 use Rattle.vlog_read.proofs.check.check.Goals as goal
 

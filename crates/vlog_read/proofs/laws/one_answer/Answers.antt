@@ -1,4 +1,4 @@
-use Rattle.vlog_read.proofs.Answers.{ParsesOnce, apart, one_net, one_refusal}
+use Rattle.vlog_read.proofs.Answers.{apart, one_net, one_refusal}
 use Rattle.vlog_read.proofs.laws.one_answer.Goals as goal
 
 pub returns-clause-net : goal.returns-clause-net

@@ -1,4 +1,4 @@
-use Rattle.std.proofs.Common.{◌≡◌, ◌<◌, ◌+◌, List, [], ◌∷◌, ◌++◌, Bool, true, ℕ, length, Some, sym, ap, ◌∙◌, subst}
+use Rattle.std.proofs.Common.{◌≡◌, ◌+◌, List, Bool, true, ℕ, length, sym, ap, ◌∙◌, subst}
 use Rattle.std.proofs.Common.{arith, set}
 use Rattle.std.proofs.Common.{length-set, drop, false}
 use Rattle.std.proofs.lemmas.Option.{slice_get_within}

@@ -1,5 +1,3 @@
-use Rattle.std.proofs.Common.{◌≡◌, ℕ, ◌+◌, Bool, false, length}
-use Rattle.vlog_read.specs.inner.Queues.{marked, IsQueue}
 use Rattle.vlog_read.proofs.Ordering.{Ordered}
 use Rattle.vlog_read.proofs.order.order.Given as goal
 

@@ -1,4 +1,4 @@
-use Rattle.std.proofs.Common.{◌≡◌, ◌<◌, length, arith, drop}
+use Rattle.std.proofs.Common.{arith, drop}
 use Rattle.vlog_read.specs.inner.Queues.{marked, wakes}
 use Rattle.vlog_read.proofs.Waking.{waking_more}
 use Rattle.vlog_read.proofs.order.settle_all.Goals as goal

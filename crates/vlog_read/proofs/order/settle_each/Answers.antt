@@ -1,4 +1,4 @@
-use Rattle.std.proofs.Common.{◌≡◌, ◌<◌, length, arith}
+use Rattle.std.proofs.Common.{arith}
 use Rattle.std.specs.Prelude.{nat_le}
 use Rattle.vlog_read.specs.inner.Queues.{marked}
 use Rattle.vlog_read.proofs.Waking.{starting_more, new_waiter}

@@ -1,8 +1,8 @@
-use Rattle.std.proofs.Common.{◌≡◌, ◌<◌, List, [], length, Some, sym, ap, ◌∙◌, subst, arith, set, true}
-use Rattle.std.specs.Prelude.{slice_get, slice_set, slice_index_or}
+use Rattle.std.proofs.Common.{◌≡◌, List, [], Some, sym, ◌∙◌, subst, arith, set, true}
+use Rattle.std.specs.Prelude.{slice_get, slice_index_or}
 use Rattle.std.proofs.lemmas.Option.{slice_get_within}
 use Rattle.vlog_read.specs.declared.waiting.Waiter.{Waiter}
-use Rattle.vlog_read.specs.inner.Queues.{marked, Has, IsQueue, wakes}
+use Rattle.vlog_read.specs.inner.Queues.{marked, IsQueue, wakes}
 use Rattle.vlog_read.proofs.Steps.{popped, woken_are}
 use Rattle.vlog_read.proofs.Waking.{marks_set}
 use Rattle.vlog_read.proofs.order.take.Goals as goal

@@ -1,7 +1,6 @@
-use Rattle.std.proofs.Common.{◌≡◌, ◌<◌, ◌++◌, ◌∷◌, [], ℕ, Some, ap, ◌∙◌, sym, refl, arith, length, get_or, List}
-use Rattle.std.specs.Prelude.{slice_get, slice_index}
+use Rattle.std.proofs.Common.{◌≡◌, ◌<◌, ◌++◌, ◌∷◌, [], ℕ, ap, ◌∙◌, refl, arith, length, get_or, List}
+use Rattle.std.specs.Prelude.{slice_index}
 use Rattle.std.proofs.lemmas.Option.{slice_get_read, slice_get-get_or}
-use Rattle.net_core.specs.declared.gate.Wire.TheVariants.{Gate}
 use Rattle.vlog_text.specs.Orders.{place_in, moved}
 use Rattle.vlog_read.proofs.Placing.{moved_same, moved_more}
 use Rattle.vlog_read.proofs.reorder.reorder.Goals as goal

@@ -1,4 +1,4 @@
-use Rattle.std.proofs.Common.{◌≡◌, ℕ, ◌+◌, ◌<◌, None, sym, ap, ◌∙◌, arith, length}
+use Rattle.std.proofs.Common.{None, sym, ap, ◌∙◌, arith}
 use Rattle.vlog_text.specs.Orders.{is_among}
 use Rattle.vlog_text.specs.Refusing.{earliest, refusals}
 use Rattle.vlog_read.proofs.LeftOut.{left_out_is}

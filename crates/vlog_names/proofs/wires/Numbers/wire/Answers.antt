@@ -1,4 +1,4 @@
-use Rattle.std.proofs.Common.{◌≡◌, ap, ◌∙◌}
+use Rattle.std.proofs.Common.{ap, ◌∙◌}
 use Rattle.std.specs.Prelude.{min, unwrap_or}
 use Rattle.vlog_names.proofs.Standings.{plain_wire, reg_wire, gate_wire}
 use Rattle.vlog_names.proofs.wires.Numbers.wire.Goals as goal

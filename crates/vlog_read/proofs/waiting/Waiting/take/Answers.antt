@@ -1,6 +1,5 @@
-use Rattle.std.proofs.Common.{◌≡◌, [], ◌∷◌, ◌++◌, length, ap, ◌∙◌, arith}
-use Rattle.std.specs.Prelude.{slice_index_or}
-use Rattle.vlog_read.proofs.WaitLists.{items_set, items_at}
+use Rattle.std.proofs.Common.{[], ap, ◌∙◌}
+use Rattle.vlog_read.proofs.WaitLists.{items_set}
 use Rattle.vlog_read.proofs.waiting.Waiting.take.Goals as goal
 
 pub returns-clause-others : goal.returns-clause-others

@@ -1,5 +1,5 @@
 use Rattle.vlog_parse.proofs.Exact as exact
-use Rattle.vlog_parse.proofs.parse.one_parse.Goals as goal
+use Rattle.vlog_parse.proofs.laws.one_parse.Goals as goal
 
 pub returns-clause-read : goal.returns-clause-read
 returns-clause-read c bytes p q = exact.one_read bytes p q

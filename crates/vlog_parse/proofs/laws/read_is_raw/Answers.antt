@@ -1,5 +1,5 @@
 use Rattle.vlog_parse.proofs.Raws as raws
-use Rattle.vlog_parse.proofs.parse.read_is_raw.Goals as goal
+use Rattle.vlog_parse.proofs.laws.read_is_raw.Goals as goal
 
 pub returns : goal.returns
 returns c = raws.read_is_raw
