@@ -18,7 +18,8 @@ bare_exprs_is n end_of-Expr = refl
 bare_exprs_is n (more_of-Expr at e rest) = ap (λ es. expr at (bare_kind e) ∷ es) (bare_exprs_is _ rest)
 
 pub bare_terms_of : (xs : List SpecTerm) → bare_terms (hidden-the_row-SpecTerm-0 xs) ≡ map bare_term xs
-bare_terms_of xs = bare_terms_is _ (hidden-the_row-SpecTerm-0 xs) ∙ ap (map bare_term) (items_hidden-the_row-SpecTerm-0 xs)
+bare_terms_of xs =
+    bare_terms_is _ (hidden-the_row-SpecTerm-0 xs) ∙ ap (map bare_term) (items_hidden-the_row-SpecTerm-0 xs)
 
 pub bare_exprs_of : (xs : List Expr) → bare_exprs (hidden-the_row-Expr-0 xs) ≡ map bare_expr xs
 bare_exprs_of xs = bare_exprs_is _ (hidden-the_row-Expr-0 xs) ∙ ap (map bare_expr) (items_hidden-the_row-Expr-0 xs)

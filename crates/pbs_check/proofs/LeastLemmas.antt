@@ -177,7 +177,7 @@ least_by_in {X = X} P f (x ∷ xs) each =
         let Q : X → Type 0 = λ z. P z s in elim (item_cases x xs here)
         [ inl same ↦ inl (subst Q (sym same) p) | inr more ↦ inr (ByItem more p) ]
 
--- what lies below a number and one
+-- what is below n + 1 is below n, or n
 pub below_cases : (m n : ℕ) → m < n + 1 → (m < n) ⊎ (m ≡ n)
 below_cases m n few = elim (eqb_tells m n) [
   | inl (_, same) ↦ inr same

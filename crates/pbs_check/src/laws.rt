@@ -1,4 +1,4 @@
-//! What holds of a specification that breaks none of the rules, and of the rules: a caller gets it as clauses of a call.
+//! What holds of the rules, and of a specification that breaks none of them: a caller gets it as clauses of a call.
 ghost use Rattle.std.specs.Prelude.{Result, ℕ, ◌↔◌, ◌≡◌, ◌≤◌, length};
 ghost use Rattle.pbs_base.specs.declared.refusal.Refusal.{Refusal};
 ghost use Rattle.pbs_base.specs.declared.refusal.Span.{Span};

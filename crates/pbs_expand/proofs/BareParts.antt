@@ -68,7 +68,8 @@ only_of_row all n (more_of-Expr s e end_of-Expr) = refl
 only_of_row all n (more_of-Expr s e (more_of-Expr s' f rest)) = refl
 
 only_of_list : (all : Expr) (items : List Expr) → stripped_row all (hidden-the_row-Expr-0 items) ≡ only_of all items
-only_of_list all items = only_of_row all _ (hidden-the_row-Expr-0 items) ∙ ap (only_of all) (items_hidden-the_row-Expr-0 items)
+only_of_list all items =
+    only_of_row all _ (hidden-the_row-Expr-0 items) ∙ ap (only_of all) (items_hidden-the_row-Expr-0 items)
 
 mutual
   stripped_from_bare : (span : Span) (k : kind.Kind)

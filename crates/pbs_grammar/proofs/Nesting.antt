@@ -394,7 +394,8 @@ deep-over ts k at p q e s =
 -- ---- reading
 
 -- tokens that are read are shallow
-read_shallow : (end : ℕ) (ts : List Token) (p : Place) (w : TextPhrase) → read end p ts ≡ Ok w → Shallow (opened_at p) ts
+read_shallow : (end : ℕ) (ts : List Token) (p : Place) (w : TextPhrase) → read end p ts ≡ Ok w
+    → Shallow (opened_at p) ts
 read_shallow end [] p w e = tt
 read_shallow end (t ∷ ts) p w e =
     by (λ q. read_shallow end ts q w) (is_too_deep p t.kind) (step p t.kind t.span) refl (step-opens p t.kind t.span) e

@@ -1,5 +1,5 @@
 -- What is open behind tokens: each `(` that isn't closed, and each `~` whose operand hasn't ended.
-use Rattle.std.specs.Prelude.{List, [], ◌∷◌}
+use Rattle.std.specs.Prelude.{List, [], ◌∷◌, drop}
 use Rattle.pbs_text.specs.declared.token.Token.{Token}
 use Rattle.pbs_text.specs.declared.token.TokenKind.{TokenKind}
 use Rattle.pbs_text.specs.declared.token.TokenKind.TheVariants.{Name, Zero, One, Two, Digit, Number, OpenRound}
@@ -15,16 +15,11 @@ closed [] = []
 closed (Waiting ∷ s) = closed s
 closed (Round ∷ s) = Round ∷ s
 
--- without what was opened last
-abbrev pub outside : List Opened → List Opened
-outside [] = []
-outside (x ∷ s) = s
-
 -- what is open behind a token: a name, a number and what ends with a `)` are operands
 abbrev pub behind : TokenKind → List Opened → List Opened
 behind Tilde s = Waiting ∷ s
 behind OpenRound s = Round ∷ s
-behind CloseRound s = closed (outside s)
+behind CloseRound s = closed (drop 1 s)
 behind Name s = closed s
 behind Zero s = closed s
 behind One s = closed s
