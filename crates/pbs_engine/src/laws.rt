@@ -16,7 +16,7 @@ ghost use Rattle.pbs_controller.specs.Ports.{ports_of};
 ghost use Rattle.pbs_engine.specs.inner.NameWords.{HasWords};
 
 use pbs_check::laws::{declared_once, one_refusal, within_limits};
-use pbs_read::one_answer;
+use pbs_read::laws::one_answer;
 use vlog_write::laws::{built_text_is_short, written_reads_back};
 
 /// A text is accepted as at most one specification or refused in at most one way, and not both.

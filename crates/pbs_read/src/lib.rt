@@ -2,6 +2,7 @@
 #![tactic(auto)]
 
 mod decls;
+pub mod laws;
 mod spec;
 
-pub use spec::{one_answer, read_spec};
+pub use spec::read_spec;

@@ -13,7 +13,7 @@ ghost use Rattle.pbs_descent.specs.Descent.{NoFront, front_refusal};
 ghost use Rattle.pbs_read.specs.inner.TextDescent.{bare_lists, nothing_yet, made_spec, decl_word, ReadsVersion};
 ghost use Rattle.pbs_read.specs.inner.TextDescent.{StopsVersion, TakesDeclWord, ReadsDecl, StopsDecl, ReadsDecls};
 ghost use Rattle.pbs_read.specs.inner.TextDescent.{StopsDecls, ReadsMain, StopsMain, ReadsText, StopsText};
-ghost use Rattle.pbs_text.specs.Answers.{StandsFor, IsRefusedBy, Answers, Refuses, IsThe};
+ghost use Rattle.pbs_text.specs.Answers.{StandsFor, IsRefusedBy, Refuses, IsThe};
 
 use crate::decls::{inputs, level, names, prod, right_side};
 use pbs_ast::{Decls, Expr, Levels, Prods, Spec};
@@ -249,8 +249,3 @@ pub fn read_spec(alloc: Global, bytes: &[u8]) -> Result<Spec, ReadSpec>
 {
     read(alloc, bytes)
 }
-
-/// No text stands for two specifications, or is refused in two ways, or both.
-pub fn one_answer()
-    ensures { (bytes : List ℕ) (a b : Result Spec Refusal) → Answers bytes a → Answers bytes b → a ≡ b }
-{}

@@ -15,7 +15,7 @@ pub struct Firsts {
 }
 
 impl Firsts {
-    pub fn new(alloc: Global) -> Firsts
+    pub(crate) fn new(alloc: Global) -> Firsts
         ensures { IsFirsts [] result }
     {
         Firsts {
@@ -24,20 +24,20 @@ impl Firsts {
     }
 
     /// The first place of the word, `None` where it has none.
-    pub fn find(&self, word: &Word) -> Option<usize>
+    pub(crate) fn find(&self, word: &Word) -> Option<usize>
         ensures { result ≡ first_in self.now word.now }
     {
         self.places.get(word).copied()
     }
 
-    pub fn has(&self, word: &Word) -> bool
+    pub(crate) fn has(&self, word: &Word) -> bool
         ensures { result ≡ is_some (first_in self.now word.now) }
     {
         self.find(word).is_some()
     }
 
     /// Notes that the name stands at this place, unless it stands at an earlier one; answers whether it doesn't.
-    pub fn enter(&mut self, alloc: Global, name: &RawName, place: usize) -> Result<bool, Memory>
+    pub(crate) fn enter(&mut self, alloc: Global, name: &RawName, place: usize) -> Result<bool, Memory>
         ensures is_new { IfOk result (λ is_new. is_new ≡ not (is_some (first_in self.old name.now.word))) }
         ensures learns { OnOk result (Learns self.old self.new (Some name.now) place) }
     {

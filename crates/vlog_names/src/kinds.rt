@@ -20,7 +20,7 @@ pub struct Kinds {
 }
 
 impl Kinds {
-    pub fn none() -> Kinds
+    pub(crate) fn none() -> Kinds
         ensures { result ≡ no_kinds }
     {
         Kinds {
@@ -31,7 +31,7 @@ impl Kinds {
         }
     }
 
-    pub fn with(self, kind: DeclKind) -> Kinds
+    pub(crate) fn with(self, kind: DeclKind) -> Kinds
         ensures { result ≡ with_kind self kind }
     {
         Kinds {
@@ -42,7 +42,7 @@ impl Kinds {
         }
     }
 
-    pub fn any(self) -> bool
+    pub(crate) fn any(self) -> bool
         ensures { result ≡ is_any self }
     {
         self.input || self.output || self.wire || self.reg
@@ -56,7 +56,7 @@ pub struct KindTable {
 }
 
 impl KindTable {
-    pub fn new(alloc: Global) -> KindTable
+    pub(crate) fn new(alloc: Global) -> KindTable
         ensures { KnowsKinds [] result }
     {
         KindTable {
@@ -64,7 +64,7 @@ impl KindTable {
         }
     }
 
-    pub fn of(&self, word: &Word) -> Kinds
+    pub(crate) fn of(&self, word: &Word) -> Kinds
         ensures { result ≡ kinds_in self.now word.now }
     {
         match self.kinds.get(word) {
@@ -73,7 +73,7 @@ impl KindTable {
         }
     }
 
-    pub fn add(&mut self, alloc: Global, decl: &RawDecl) -> Result<(), Memory>
+    pub(crate) fn add(&mut self, alloc: Global, decl: &RawDecl) -> Result<(), Memory>
         ensures { OnOk result ((w : List ℕ) → kinds_in self.new w
             ≡ (if bytes_eq w decl.now.name.word then with_kind (kinds_in self.old w) decl.now.kind
             else kinds_in self.old w)) }
@@ -98,7 +98,7 @@ pub(crate) fn is_reset(word: &Word) -> bool
 }
 
 /// Whether the word, declared as these things, is an input other than `clk` and `rst`.
-pub fn is_plain(kinds: Kinds, word: &Word) -> bool
+pub(crate) fn is_plain(kinds: Kinds, word: &Word) -> bool
     ensures { result ≡ is_plain kinds word.now }
 {
     kinds.input && !(is_clock(word) || is_reset(word))
