@@ -37,7 +37,12 @@ impl Firsts {
     }
 
     /// Notes that the name stands at this place, unless it stands at an earlier one; answers whether it doesn't.
-    pub(crate) fn enter(&mut self, alloc: Global, name: &RawName, place: usize) -> Result<bool, Memory>
+    pub(crate) fn enter(
+        &mut self,
+        alloc: Global,
+        name: &RawName,
+        place: usize,
+    ) -> Result<bool, Memory>
         ensures is_new { IfOk result (λ is_new. is_new ≡ not (is_some (first_in self.old name.now.word))) }
         ensures learns { OnOk result (Learns self.old self.new (Some name.now) place) }
     {
