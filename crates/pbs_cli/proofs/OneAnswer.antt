@@ -19,11 +19,12 @@ pub record OneEach : Type 0 where
   pub refusal : (text : List ℕ) (r s : Refusal) → Breaks text r → Breaks text s → r ≡ s
   pub apart : (text : List ℕ) (a : Spec) (r : Refusal) → IsAccepted text a → Breaks text r → ⊥
   pub outcome : (text trace : List ℕ) (o p : Outcome) → TextGives text trace o → TextGives text trace p → o ≡ p
-  pub net : (text : List ℕ) (a b : Circuit) → vlog.StandsFor text a → vlog.StandsFor text b → a ≡ b
-  pub bad_net : (text : List ℕ) (r s : Refusal) → vlog.IsRefusedBy text r → vlog.IsRefusedBy text s → r ≡ s
-  pub net_apart : (text : List ℕ) (a : Circuit) (r : Refusal) → vlog.StandsFor text a → vlog.IsRefusedBy text r → ⊥
+  pub net : (text : List ℕ) (a b : Circuit) → vlog.ElaboratesTo text a → vlog.ElaboratesTo text b → a ≡ b
+  pub bad_net : (text : List ℕ) (r s : Refusal) → vlog.IsRefusedVerilog text r → vlog.IsRefusedVerilog text s → r ≡ s
+  pub net_apart : (text : List ℕ) (a : Circuit) (r : Refusal) → vlog.ElaboratesTo text a
+      → vlog.IsRefusedVerilog text r → ⊥
   pub row : (net : Circuit) → IsCircuit net → HasOneAssignment net
-  pub wired : (text : List ℕ) (net : Circuit) → vlog.StandsFor text net → IsCircuit net
+  pub wired : (text : List ℕ) (net : Circuit) → vlog.ElaboratesTo text net → IsCircuit net
 
 one_check : OneEach → (text : List ℕ) (o p : Outcome) → Checks text o → Checks text p → o ≡ p
 one_check one text o p (OnAccepted spec a) (OnAccepted other b) = refl

@@ -3,7 +3,7 @@ use Rattle.std.proofs.Common.{ℕ, ◌≤◌, List, length, codes, arith}
 use Rattle.net_core.specs.Circuits.{Circuit, IsCircuit, IsBuilt}
 use Rattle.vlog_text.specs.Emitted.{emitted}
 use Rattle.vlog_text.specs.PortNames.{HasPortNames}
-use Rattle.vlog_text.specs.Reading.{IsShort, StandsFor}
+use Rattle.vlog_text.specs.Reading.{IsShortVerilog, ElaboratesTo}
 use Rattle.vlog_write.specs.NamedPins.{HasShortNames, named_pins}
 use Rattle.pbs_controller.specs.Controllers.{IsWritable}
 use Rattle.pbs_controller.specs.Ports.{ports_of}
@@ -13,13 +13,13 @@ use Rattle.pbs_engine.proofs.Ports.{HasPorts, ports_named}
 -- the laws on what is written for netlists
 pub record Written : Type 0 where
   pub short : (c : Circuit) → IsCircuit c → IsBuilt c.gates → HasPortNames c → HasShortNames c
-      → length c.gates ≤ 1185792 → length c.registers ≤ 4160 → named_pins c ≤ 33000 → IsShort (emitted c)
-  pub reads : (c : Circuit) → IsCircuit c → HasPortNames c → IsShort (emitted c) → StandsFor (emitted c) c
+      → length c.gates ≤ 1185792 → length c.registers ≤ 4160 → named_pins c ≤ 33000 → IsShortVerilog (emitted c)
+  pub reads : (c : Circuit) → IsCircuit c → HasPortNames c → IsShortVerilog (emitted c) → ElaboratesTo (emitted c) c
 
 pub stands : (ins outs : List (List ℕ)) (gates registers pins : ℕ) (net : Circuit) → Written → gates ≤ 1185792
     → registers ≤ 4160 → pins ≤ 32768
     → IsWritable (ports_of (codes "i_") ins) (ports_of (codes "a_") outs) gates registers pins net
-    → HasPorts net ins outs → StandsFor (emitted net) net
+    → HasPorts net ins outs → ElaboratesTo (emitted net) net
 stands ins outs gates registers pins net laws few_gates few_registers few_pins is ports =
     let names = ports_named net ins outs ports in
     let named = pins_are net is.unread in

@@ -98,9 +98,9 @@ net_ends text name net a b k m result back ends =
     (λ files. (spec : Spec) × IsCompiled text spec → HasFile name files) a a b k m
     (read_back_part text name net a.files back) (GoesOn-refl a) refl result ends
 
-netlist_part : (text name : List ℕ) (net : Circuit) (told : Option (List NamedFile)) → netlists.StandsFor text net
+netlist_part : (text name : List ℕ) (net : Circuit) (told : Option (List NamedFile)) → netlists.ElaboratesTo text net
     → IsPart (net_task name) (netlist_task name) (λ files. net) (λ files. text) (λ files. ⊤ → HasFile name files)
-    (λ files. (net : Circuit) × netlists.StandsFor text net → HasFile name files) told
+    (λ files. (net : Circuit) × netlists.ElaboratesTo text net → HasFile name files) told
 netlist_part text name net told stands = record {
   trace = refl;
   gives = λ files is bytes o given. OfNetlist net stands o given;
@@ -109,11 +109,11 @@ netlist_part text name net told stands = record {
 }
 
 pub netlist_ends : (text name : List ℕ) (net : Circuit) (a b : ShelfState) (k m : SinkState)
-    (result : Result (Unit {0}) RunFail) → netlists.StandsFor text net
+    (result : Result (Unit {0}) RunFail) → netlists.ElaboratesTo text net
     → TaskEnds (net_task name) net a b k m result → TaskEnds (netlist_task name) text a b k m result
 netlist_ends text name net a b k m result stands ends =
     ends_more (net_task name) (netlist_task name) (λ files. net) (λ files. text) (λ files. ⊤ → HasFile name files)
-    (λ files. (net : Circuit) × netlists.StandsFor text net → HasFile name files) a a b k m
+    (λ files. (net : Circuit) × netlists.ElaboratesTo text net → HasFile name files) a a b k m
     (netlist_part text name net a.files stands) (GoesOn-refl a) refl result ends
 
 -- the text is refused, and nothing is opened

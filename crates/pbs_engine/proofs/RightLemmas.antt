@@ -84,13 +84,13 @@ EmittedStands =
     (text : List ℕ) (spec : Spec) (gates registers pins : ℕ) (net : Circuit) → StandsFor text spec → IsUnbroken spec
     → IsWritable (ports_of (codes "i_") (input_names spec.inputs)) (ports_of (codes "a_") (action_names spec.actions))
     gates registers pins net
-    → gates ≤ 1185792 → registers ≤ 4160 → pins ≤ 32768 → netlists.StandsFor (emitted net) net
+    → gates ≤ 1185792 → registers ≤ 4160 → pins ≤ 32768 → netlists.ElaboratesTo (emitted net) net
 
 -- the controller of a specification is small enough
 controller_stands : EmittedStands → (text : List ℕ) (spec : Spec) (net : Circuit) → IsAccepted text spec
     → length (action_names spec.actions) ≤ 64
     → IsController (input_names spec.inputs) (action_names spec.actions) (expanded spec) net
-    → netlists.StandsFor (emitted net) net
+    → netlists.ElaboratesTo (emitted net) net
 controller_stands stands text spec net is few controller =
     let main = expanded spec in
     let within = small spec is.within in
@@ -140,10 +140,10 @@ not_compiled text before now engine.Memory is = tt
 -- the text of a netlist stands for one
 abbrev pub OneNet : Type 0
 OneNet =
-    (bytes : List ℕ) (a b : Circuit) → netlists.StandsFor bytes a → netlists.StandsFor bytes b → a ≡ b
+    (bytes : List ℕ) (a b : Circuit) → netlists.ElaboratesTo bytes a → netlists.ElaboratesTo bytes b → a ≡ b
 
 pub was_read_back : OneNet → (text verilog : List ℕ) (net : Circuit) → IsVerilogOf text verilog
-    → netlists.StandsFor verilog net → IsReadBack text net
+    → netlists.ElaboratesTo verilog net → IsReadBack text net
 was_read_back one text verilog net right stands = record {
   spec = right.spec;
   run = right.run;
@@ -154,7 +154,7 @@ was_read_back one text verilog net right stands = record {
 -- a text stands for a netlist or is refused
 abbrev pub NeverBoth : Type 0
 NeverBoth =
-    (bytes : List ℕ) (a : Circuit) (r : Refusal) → netlists.StandsFor bytes a → netlists.IsRefusedBy bytes r → ⊥
+    (bytes : List ℕ) (a : Circuit) (r : Refusal) → netlists.ElaboratesTo bytes a → netlists.IsRefusedVerilog bytes r → ⊥
 
 pub never_refused : NeverBoth → (text verilog : List ℕ) (r : Refusal) (fail : VlogFail) → IsVerilogOf text verilog
     → fail ≡ reads.Refused r → Reads verilog (Err fail) → ⊥

@@ -60,14 +60,14 @@ text_task name = record {
 
 -- what the text of a netlist gives on the text of a trace
 pub data NetlistGives (text trace_text : List ℕ) : Outcome → Type 0 where
-  OfNetlist : (net : Circuit) → netlists.StandsFor text net → (outcome : Outcome) → NetGives net trace_text outcome
+  OfNetlist : (net : Circuit) → netlists.ElaboratesTo text net → (outcome : Outcome) → NetGives net trace_text outcome
       → NetlistGives text trace_text outcome
-  OfBadNetlist : {r : Refusal} → netlists.IsRefusedBy text r → NetlistGives text trace_text (refused r)
+  OfBadNetlist : {r : Refusal} → netlists.IsRefusedVerilog text r → NetlistGives text trace_text (refused r)
 
 -- a netlist that the text stands for has these lines where so much of the trace was taken
 pub record SimulatedRows (text taken lines : List ℕ) : Type 0 where
   pub net : Circuit
-  pub stands : netlists.StandsFor text net
+  pub stands : netlists.ElaboratesTo text net
   pub rows : NetRows net taken lines
 
 -- the text of a netlist on the named trace
@@ -76,6 +76,6 @@ netlist_task name = record {
   trace = Some name;
   gives = NetlistGives;
   due = SimulatedRows;
-  opens = λ text. (net : Circuit) × netlists.StandsFor text net;
-  leaves = λ text. (r : Refusal) × netlists.IsRefusedBy text r;
+  opens = λ text. (net : Circuit) × netlists.ElaboratesTo text net;
+  leaves = λ text. (r : Refusal) × netlists.IsRefusedVerilog text r;
 }

@@ -9,7 +9,7 @@ use Rattle.pbs_expand.specs.Expanded.{expanded}
 use Rattle.net_core.specs.Rows.{Row}
 use Rattle.net_core.specs.Circuits.{Circuit, IsBuilt, IsCircuit, output_names}
 use Rattle.net_core.specs.Runs.{IsRun}
-use Rattle.vlog_text.specs.Reading.{StandsFor}
+use Rattle.vlog_text.specs.Reading.{ElaboratesTo}
 use Rattle.vlog_text.specs.Emitted.{emitted}
 use Rattle.pbs_controller.specs.Controllers.{ShowsRow}
 use Rattle.pbs_controller.specs.Ports.{ports_of}
@@ -44,7 +44,7 @@ pub record Realizes (spec : Spec) (net : Circuit) : Type 0 where
 -- its registers are `q0`, `q1` and so on
 pub record IsRight (spec : Spec) (text : List ℕ) : Type 0 where
   pub net : Circuit
-  pub stands : StandsFor text net
+  pub stands : ElaboratesTo text net
   pub written : text ≡ emitted net
   pub realizes : Realizes spec net
 

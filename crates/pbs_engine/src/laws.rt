@@ -53,13 +53,13 @@ pub(crate) fn names_are_words()
     declared_once();
 }
 
-/// What is written for a netlist with the ports of an accepted specification, and with no more gates, registers and pins
-/// than fit in a text, is short enough, breaks no rule and stands for that very netlist.
+/// What is written for a netlist with the ports of an accepted specification, and with no more gates, registers and
+/// pins than fit in a text, is short enough, breaks no rule and stands for that very netlist.
 pub fn emitted_stands()
     ensures { (text : List ℕ) (spec : Spec) (gates registers pins : ℕ) (net : Circuit) → StandsFor text spec
         → IsUnbroken spec → IsWritable (ports_of (codes "i_") (input_names spec.inputs))
         (ports_of (codes "a_") (action_names spec.actions)) gates registers pins net
-        → gates ≤ 1185792 → registers ≤ 4160 → pins ≤ 32768 → netlists.StandsFor (emitted net) net }
+        → gates ≤ 1185792 → registers ≤ 4160 → pins ≤ 32768 → netlists.ElaboratesTo (emitted net) net }
 {
     names_are_words();
     within_limits();

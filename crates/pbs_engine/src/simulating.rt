@@ -4,7 +4,7 @@ ghost use Rattle.std.specs.Option.{ForSome};
 ghost use Rattle.pbs_io.specs.Outside.{GoesOn, content_of};
 ghost use Rattle.pbs_io.specs.Taken.{TakesAtMost};
 ghost use Rattle.pbs_base.specs.declared.refusal.Refusal.{Refusal as RefusalValue};
-ghost use Rattle.vlog_text.specs.Reading.{IsRefusedBy};
+ghost use Rattle.vlog_text.specs.Reading.{IsRefusedVerilog};
 ghost use Rattle.net_trace.specs.declared.fail.RunFail.TheVariants as fails;
 ghost use Rattle.net_trace.specs.Endings.{TaskEnds};
 ghost use Rattle.pbs_engine.specs.Outcomes.{netlist_task};
@@ -32,9 +32,9 @@ pub fn sim<S: Shelf, K: Sink>(
         (K.state sink.old) (K.state sink.new) result }
     ensures few { ForSome (S.state shelf.old).files (λ files. TakesAtMost 67108865 (content_of files name.now)
         ((S.state shelf.old).slots 1) ((S.state shelf.new).slots 1)) }
-    ensures untouched { (r : RefusalValue) → IsRefusedBy text.now r
+    ensures untouched { (r : RefusalValue) → IsRefusedVerilog text.now r
         → (shelf.new ≡ shelf.old) × (sink.new ≡ sink.old) }
-    ensures no_fault { (r : RefusalValue) → IsRefusedBy text.now r
+    ensures no_fault { (r : RefusalValue) → IsRefusedVerilog text.now r
         → (result ≢ Err fails.ReadFault) × (result ≢ Err fails.WriteFault) }
 {
     one_answer();

@@ -7,7 +7,7 @@ use Rattle.vlog_text.specs.declared.token.Token.{Token}
 use Rattle.vlog_text.specs.Grammar.{TextPhrase, IsText}
 use Rattle.vlog_text.specs.Lexing.{tokens}
 use Rattle.vlog_text.specs.Raw.{IsRaw}
-use Rattle.vlog_text.specs.Reading.{IsShort, IsRead, LeavesGrammar}
+use Rattle.vlog_text.specs.Reading.{IsShortVerilog, IsRead, LeavesGrammar}
 use Rattle.vlog_text.specs.Refusing.{refusal}
 use Rattle.vlog_text.specs.Trees.{raw_of}
 use Rattle.vlog_parse.specs.declared.fail.ParseFail.{ParseFail}
@@ -23,8 +23,8 @@ pub record IsParsed (bytes : List ℕ) (raw : RawNetlist) : Type 0 where
 -- this is the first rule of 1 to 3 that the text breaks, and its place
 pub data IsUnreadable (bytes : List ℕ) : Refusal → Type 0 where
   ByLength : 67108864 < length bytes → IsUnreadable bytes (refusal 1 (record { start = 67108864; end = 67108865 }))
-  ByToken : IsShort bytes → (at : Span) → tokens bytes ≡ Err at → IsUnreadable bytes (refusal 2 at)
-  ByGrammar : IsShort bytes → (found : List Token) → tokens bytes ≡ Ok found → (at : Span)
+  ByToken : IsShortVerilog bytes → (at : Span) → tokens bytes ≡ Err at → IsUnreadable bytes (refusal 2 at)
+  ByGrammar : IsShortVerilog bytes → (found : List Token) → tokens bytes ≡ Ok found → (at : Span)
       → LeavesGrammar (length bytes) found at → IsUnreadable bytes (refusal 3 at)
 
 -- what is said of a text, unless memory ran out

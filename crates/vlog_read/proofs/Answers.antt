@@ -5,7 +5,7 @@ use Rattle.net_core.specs.Circuits.{Circuit}
 use Rattle.vlog_text.specs.declared.raw.RawNetlist.{RawNetlist}
 use Rattle.vlog_text.specs.Grammar.{TextPhrase}
 use Rattle.vlog_text.specs.Reading as reading
-use Rattle.vlog_text.specs.Reading.{IsRead, IsRefusedBy, StandsFor}
+use Rattle.vlog_text.specs.Reading.{IsRead, IsRefusedVerilog, ElaboratesTo}
 use Rattle.vlog_text.specs.Refusing.{first_broken}
 use Rattle.vlog_text.specs.Standing.{net_of}
 use Rattle.vlog_text.specs.Trees.{raw_of}
@@ -21,7 +21,7 @@ pub record ParsesOnce (bytes : List ℕ) : Type 0 where
   pub refusal : (r s : Refusal) → IsUnreadable bytes r → IsUnreadable bytes s → r ≡ s
   pub apart : (p : TextPhrase) (r : Refusal) → IsRead bytes p → IsUnreadable bytes r → ⊥
 
-pub one_net : (bytes : List ℕ) (a b : Circuit) → ParsesOnce bytes → StandsFor bytes a → StandsFor bytes b → a ≡ b
+pub one_net : (bytes : List ℕ) (a b : Circuit) → ParsesOnce bytes → ElaboratesTo bytes a → ElaboratesTo bytes b → a ≡ b
 one_net bytes a b once s t =
     s.net_is ∙ (ap (λ p. net_of (raw_of bytes p)) (once.phrase s.phrase t.phrase s.is_read t.is_read) ∙ sym t.net_is)
 
@@ -30,13 +30,13 @@ pub data Refusals (bytes : List ℕ) (r : Refusal) : Type 0 where
   Early : IsUnreadable bytes r → Refusals bytes r
   Late : (p : TextPhrase) → IsRead bytes p → first_broken (raw_of bytes p) ≡ Some r → Refusals bytes r
 
-refusals_of : (bytes : List ℕ) (r : Refusal) → IsRefusedBy bytes r → Refusals bytes r
+refusals_of : (bytes : List ℕ) (r : Refusal) → IsRefusedVerilog bytes r → Refusals bytes r
 refusals_of bytes _ (reading.ByLength long) = Early (ByLength long)
 refusals_of bytes _ (reading.ByToken short at is) = Early (ByToken short at is)
 refusals_of bytes _ (reading.ByGrammar short found is at leaves) = Early (ByGrammar short found is at leaves)
 refusals_of bytes _ (reading.ByNames p read r broken) = Late p read broken
 
-pub early : (bytes : List ℕ) (r : Refusal) → IsUnreadable bytes r → IsRefusedBy bytes r
+pub early : (bytes : List ℕ) (r : Refusal) → IsUnreadable bytes r → IsRefusedVerilog bytes r
 early bytes _ (ByLength long) = reading.ByLength long
 early bytes _ (ByToken short at is) = reading.ByToken short at is
 early bytes _ (ByGrammar short found is at leaves) = reading.ByGrammar short found is at leaves
@@ -52,21 +52,23 @@ same_refusal bytes r s once (Late p read broken) (Late q read2 broken2) =
     same_some r s
     (sym broken ∙ (ap (λ t. first_broken (raw_of bytes t)) (once.phrase p q read read2) ∙ broken2))
 
-pub one_refusal : (bytes : List ℕ) (r s : Refusal) → ParsesOnce bytes → IsRefusedBy bytes r → IsRefusedBy bytes s
+pub one_refusal : (bytes : List ℕ) (r s : Refusal) → ParsesOnce bytes → IsRefusedVerilog bytes r
+    → IsRefusedVerilog bytes s
     → r ≡ s
 one_refusal bytes r s once a b = same_refusal bytes r s once (refusals_of bytes r a) (refusals_of bytes s b)
 
 no_both : (r : Refusal) → None ≡ Some r → ⊥
 no_both r e = cc
 
-never_both : (bytes : List ℕ) (a : Circuit) (r : Refusal) → ParsesOnce bytes → StandsFor bytes a → Refusals bytes r
+never_both : (bytes : List ℕ) (a : Circuit) (r : Refusal) → ParsesOnce bytes → ElaboratesTo bytes a → Refusals bytes r
     → ⊥
 never_both bytes a r once s (Early b) = once.apart s.phrase r s.is_read b
 never_both bytes a r once s (Late p read broken) =
     no_both r
     (sym s.unbroken ∙ (ap (λ t. first_broken (raw_of bytes t)) (once.phrase s.phrase p s.is_read read) ∙ broken))
 
-pub apart : (bytes : List ℕ) (a : Circuit) (r : Refusal) → ParsesOnce bytes → StandsFor bytes a → IsRefusedBy bytes r
+pub apart : (bytes : List ℕ) (a : Circuit) (r : Refusal) → ParsesOnce bytes → ElaboratesTo bytes a
+    → IsRefusedVerilog bytes r
     → ⊥
 apart bytes a r once s b = never_both bytes a r once s (refusals_of bytes r b)
 

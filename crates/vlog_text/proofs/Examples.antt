@@ -14,7 +14,7 @@ use Rattle.vlog_text.specs.Grammar.{OneXor, MoreXors, OneName, MoreNames, OneOpe
 use Rattle.vlog_text.specs.Grammar.{ItemPhrase, Declare, ManyGate, SingleGate, Assign, Always, ItemsPhrase, NoItems}
 use Rattle.vlog_text.specs.Grammar.{MoreItems, TextPhrase, text_tokens}
 use Rattle.vlog_text.specs.Refusing.{refusal}
-use Rattle.vlog_text.specs.Reading.{IsRead, StandsFor, IsRefusedBy, ByNames}
+use Rattle.vlog_text.specs.Reading.{IsRead, ElaboratesTo, IsRefusedVerilog, ByNames}
 
 abbrev at : ℕ → ℕ → Span
 at a b = record { start = a; end = b }
@@ -71,7 +71,7 @@ driven_twice_read = record {
   text = record { tokens = refl; shallow = omega arith };
 }
 
-driven_twice_refused : IsRefusedBy driven_twice_text (refusal 5 (at 77 78))
+driven_twice_refused : IsRefusedVerilog driven_twice_text (refusal 5 (at 77 78))
 driven_twice_refused = ByNames driven_twice_phrase driven_twice_read (refusal 5 (at 77 78)) refl
 
 -- ---- a cycle
@@ -111,7 +111,7 @@ in_a_circle_read = record {
   text = record { tokens = refl; shallow = omega arith };
 }
 
-in_a_circle_refused : IsRefusedBy in_a_circle_text (refusal 6 (at 63 64))
+in_a_circle_refused : IsRefusedVerilog in_a_circle_text (refusal 6 (at 63 64))
 in_a_circle_refused = ByNames in_a_circle_phrase in_a_circle_read (refusal 6 (at 63 64)) refl
 
 -- ---- the clock as an operand
@@ -147,7 +147,7 @@ clocked_read = record {
   text = record { tokens = refl; shallow = omega arith };
 }
 
-clocked_refused : IsRefusedBy clocked_text (refusal 7 (at 58 61))
+clocked_refused : IsRefusedVerilog clocked_text (refusal 7 (at 58 61))
 clocked_refused = ByNames clocked_phrase clocked_read (refusal 7 (at 58 61)) refl
 
 -- ---- a second driver, and behind it a name that isn't declared
@@ -185,7 +185,7 @@ two_faults_read = record {
   text = record { tokens = refl; shallow = omega arith };
 }
 
-two_faults_refused : IsRefusedBy two_faults_text (refusal 4 (at 72 73))
+two_faults_refused : IsRefusedVerilog two_faults_text (refusal 4 (at 72 73))
 two_faults_refused = ByNames two_faults_phrase two_faults_read (refusal 4 (at 72 73)) refl
 
 -- ---- gates that stand in another order than they are taken
@@ -241,7 +241,7 @@ held_net =
     ∷ record { kind = gate.And; pins = wire.Gate 2 ∷ wire.Reg 0 ∷ [] } ∷ [])
     (wire.Gate 3 ∷ []) ((record { name = codes "y"; gate = 3 }) ∷ [])
 
-held_stands : StandsFor held_text held_net
+held_stands : ElaboratesTo held_text held_net
 held_stands = record { phrase = held_phrase; is_read = held_read; unbroken = refl; net_is = refl }
 
 held_emitted : emitted held_net

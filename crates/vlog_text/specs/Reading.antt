@@ -1,4 +1,4 @@
--- What netlist a text stands for, and the refusals by rules 1 to 8.
+-- What netlist a text elaborates to, and the refusals by rules 1 to 8.
 use Rattle.std.specs.Prelude.{ℕ, ◌≤◌, ◌<◌, ◌≡◌, List, [], ◌∷◌, ◌++◌, length, Some, None, Ok, Err}
 use Rattle.pbs_base.specs.declared.refusal.Span.{Span}
 use Rattle.pbs_base.specs.declared.refusal.Refusal.{Refusal}
@@ -10,8 +10,8 @@ use Rattle.vlog_text.specs.Trees.{raw_of}
 use Rattle.vlog_text.specs.Standing.{net_of}
 use Rattle.vlog_text.specs.Refusing.{refusal, first_broken}
 
-abbrev pub IsShort : List ℕ → Type 0
-IsShort bytes = length bytes ≤ 67108864
+abbrev pub IsShortVerilog : List ℕ → Type 0
+IsShortVerilog bytes = length bytes ≤ 67108864
 
 -- the tokens break rule 3 at this span; the text has `end` bytes
 pub data LeavesGrammar (end : ℕ) (ts : List Token) : Span → Type 0 where
@@ -23,23 +23,23 @@ pub data LeavesGrammar (end : ℕ) (ts : List Token) : Span → Type 0 where
 
 -- the bytes are this text of the grammar
 pub record IsRead (bytes : List ℕ) (p : TextPhrase) : Type 0 where
-  pub short : IsShort bytes
+  pub short : IsShortVerilog bytes
   pub found : List Token
   pub found_is : tokens bytes ≡ Ok found
   pub text : IsText found p
 
--- the text stands for this netlist
-pub record StandsFor (bytes : List ℕ) (net : Circuit) : Type 0 where
+-- the text elaborates to this netlist
+pub record ElaboratesTo (bytes : List ℕ) (net : Circuit) : Type 0 where
   pub phrase : TextPhrase
   pub is_read : IsRead bytes phrase
   pub unbroken : first_broken (raw_of bytes phrase) ≡ None
   pub net_is : net ≡ net_of (raw_of bytes phrase)
 
 -- this is the first rule that the text breaks, and its place
-pub data IsRefusedBy (bytes : List ℕ) : Refusal → Type 0 where
-  ByLength : 67108864 < length bytes → IsRefusedBy bytes (refusal 1 (record { start = 67108864; end = 67108865 }))
-  ByToken : IsShort bytes → (at : Span) → tokens bytes ≡ Err at → IsRefusedBy bytes (refusal 2 at)
-  ByGrammar : IsShort bytes → (found : List Token) → tokens bytes ≡ Ok found → (at : Span)
-      → LeavesGrammar (length bytes) found at → IsRefusedBy bytes (refusal 3 at)
+pub data IsRefusedVerilog (bytes : List ℕ) : Refusal → Type 0 where
+  ByLength : 67108864 < length bytes → IsRefusedVerilog bytes (refusal 1 (record { start = 67108864; end = 67108865 }))
+  ByToken : IsShortVerilog bytes → (at : Span) → tokens bytes ≡ Err at → IsRefusedVerilog bytes (refusal 2 at)
+  ByGrammar : IsShortVerilog bytes → (found : List Token) → tokens bytes ≡ Ok found → (at : Span)
+      → LeavesGrammar (length bytes) found at → IsRefusedVerilog bytes (refusal 3 at)
   ByNames : (p : TextPhrase) → IsRead bytes p → (r : Refusal) → first_broken (raw_of bytes p) ≡ Some r
-      → IsRefusedBy bytes r
+      → IsRefusedVerilog bytes r

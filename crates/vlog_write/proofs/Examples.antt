@@ -11,7 +11,7 @@ use Rattle.net_core.specs.declared.netlist.Output.{Output}
 use Rattle.net_core.specs.Circuits.{Circuit, circuit_of, IsThere, FitsAfter, IsCircuit, IsPlain, IsBuilt}
 use Rattle.vlog_text.specs.Emitted.{emitted}
 use Rattle.vlog_text.specs.PortNames.{IsPortName, port_names, HasPortNames}
-use Rattle.vlog_text.specs.Reading.{StandsFor}
+use Rattle.vlog_text.specs.Reading.{ElaboratesTo}
 use Rattle.vlog_write.specs.NamedPins.{named_pins, HasShortNames}
 use Rattle.vlog_write.proofs.Lengths.{built_is_short}
 use Rattle.vlog_write.proofs.Lists.{each_at}
@@ -113,7 +113,7 @@ small_short = record {
   each = λ n w e. each_at (λ w. length w ≤ 68) (port_names small) n w (omega arith, (omega arith, tt)) e;
 }
 
-small_stands : StandsFor (emitted small) small
+small_stands : ElaboratesTo (emitted small) small
 small_stands =
     written_is_read small small_is small_names
     (built_is_short small small_is small_built small_names small_short (omega arith) (omega arith) (omega arith))

@@ -18,7 +18,7 @@ use Rattle.vlog_text.specs.Emitted.{driven, target_text, gate_name, reg_name, op
 use Rattle.vlog_text.specs.Emitted.{wire_line, gate_line, always_line, numbered, module_line, input_lines}
 use Rattle.vlog_text.specs.Emitted.{output_lines, reg_lines, wire_lines, gate_lines, always_lines, emitted}
 use Rattle.vlog_text.specs.PortNames.{port_names, HasPortNames}
-use Rattle.vlog_text.specs.Reading.{IsShort}
+use Rattle.vlog_text.specs.Reading.{IsShortVerilog}
 use Rattle.vlog_write.specs.NamedPins.{output_pin, named_pin, list_named_pins, gate_named_pins, named_pins}
 use Rattle.vlog_write.specs.NamedPins.{HasShortNames}
 use Rattle.vlog_write.proofs.Lists.{Each, each_left, each_right, each_mapped, each_from, each_at}
@@ -281,5 +281,5 @@ module _ (c : Circuit) (good : IsCircuit c) (short : HasShortNames c) (few_gates
       omega arith
 
 pub built_is_short : (c : Circuit) → IsCircuit c → IsBuilt c.gates → HasPortNames c → HasShortNames c
-    → length c.gates ≤ 1185792 → length c.registers ≤ 4160 → named_pins c ≤ 33000 → IsShort (emitted c)
+    → length c.gates ≤ 1185792 → length c.registers ≤ 4160 → named_pins c ≤ 33000 → IsShortVerilog (emitted c)
 built_is_short c good built names short gates regs pins = whole-length c good short gates regs built pins

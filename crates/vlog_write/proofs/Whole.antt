@@ -7,7 +7,7 @@ use Rattle.vlog_text.specs.Emitted.{emitted}
 use Rattle.vlog_text.specs.Grammar.{items_depth}
 use Rattle.vlog_text.specs.Lexing.{tokens}
 use Rattle.vlog_text.specs.PortNames.{HasPortNames}
-use Rattle.vlog_text.specs.Reading.{IsShort, StandsFor}
+use Rattle.vlog_text.specs.Reading.{IsShortVerilog, ElaboratesTo}
 use Rattle.vlog_text.specs.Trees.{raw_of}
 use Rattle.vlog_write.proofs.Lists.{Each, each_from}
 use Rattle.vlog_write.proofs.Pieces.{text, placed, lex-text, Stands, stands}
@@ -21,7 +21,8 @@ use Rattle.vlog_write.proofs.Rules.{unbroken}
 shallow : (n : ℕ) → n ≡ 0 → n ≤ 64
 shallow n e = omega arith
 
-pub written_is_read : (c : Circuit) → IsCircuit c → HasPortNames c → IsShort (emitted c) → StandsFor (emitted c) c
+pub written_is_read : (c : Circuit) → IsCircuit c → HasPortNames c → IsShortVerilog (emitted c)
+    → ElaboratesTo (emitted c) c
 written_is_read c good names short =
     let bytes : List ℕ = emitted c in
     let ts : List Token = placed 0 (all_pieces c) in
