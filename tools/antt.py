@@ -60,6 +60,7 @@ class Definitions:
                 continue
             if line.strip() and not line.strip().startswith("--"):
                 self.blocks[current].append(COMMENT.sub("", line))
+            self.owner.setdefault(current, current)
             found = self.declared(line, current)
             if found:
                 self.owner.setdefault(found[2], current)
