@@ -9,11 +9,11 @@ use Rattle.pbs_io.specs.Outside.{Reads, ShelfState}
 use Rattle.pbs_base.specs.declared.refusal.Refusal.{Refusal}
 use Rattle.trace_text.specs.Traces.{Rows, lines, rows}
 use Rattle.trace_text.specs.Headers.{Header, NoHeader, Order, Refusing, Traced, header, headed, trace, trace_of}
-use Rattle.trace_text.specs.States.{IsInHeader, ReaderState, ReadsHead, has_newline, rows_from, start, trace_from}
+use Rattle.trace_text.specs.States.{IsInHeader, ReaderState, ReadsHead, has_newline, rows_from, trace_from}
 use Rattle.trace_text.specs.declared.answers.Phase.TheVariants as phase
 use Rattle.trace_text.specs.declared.answers.Head.TheVariants as head
 use Rattle.trace_text.proofs.LineLemmas.{first_open, lines_ended}
-use Rattle.net_trace.specs.inner.Steps.{Read, ReadAll}
+use Rattle.net_trace.specs.inner.Steps.{Read}
 use Rattle.net_trace.proofs.TextLemmas.{cut, drop_line, open_append, traced_same}
 use Rattle.net_trace.proofs.StandLemmas.{at_end}
 
@@ -24,15 +24,6 @@ pub record HeaderRead (ports : List (List ℕ)) (s : ReaderState) (done : List �
   pub open_line : has_newline done ≡ false
   pub used : s.used ≡ length done
   pub follows : (rest : List ℕ) → trace ports (done ++ rest) ≡ trace_from s rest
-
-pub header_begun : (s : ReaderState) → s ≡ start s.ports → HeaderRead s.ports s []
-header_begun s fresh = subst (λ t. HeaderRead s.ports t []) (sym fresh) (record {
-  phase = refl;
-  ports_are = refl;
-  open_line = refl;
-  used = refl;
-  follows = λ rest. refl;
-})
 
 -- ---- no newline yet
 
@@ -60,14 +51,6 @@ header_more ports s t done piece last used r reads =
           ∙ (reads.gives rest (on_rest last more.goes_on rest)
           ∙ ap (λ l. trace_from t (l ++ rest)) none));
     }
-
-pub more_used : (s t : ReaderState) (piece : List ℕ) (last : Bool) (used : ℕ) → ReadsHead s t piece last used head.More
-    → t.used ≡ s.used + length piece
-more_used s t piece last used reads =
-    let count = reads.bytes.0.count in
-    let line = reads.bytes.0.line in
-    let long = first_open piece reads.bytes.1.open_line in
-    omega arith
 
 -- ---- the header's newline
 
@@ -148,18 +131,6 @@ header_ends ports s t done piece last used r reads goes_on =
   where
     order_same : {a b : List ℕ} → Order a ≡ Order b → a ≡ b
     order_same e = ap order_of e
-
-pub header_at_end : (ports : List (List ℕ)) (s t : ReaderState) (done piece : List ℕ) (last : Bool) (used : ℕ)
-    → HeaderRead ports s done → ReadsHead s t piece last used head.Ready → piece ≡ []
-    → ReadAll ports t done []
-header_at_end ports s t done piece last used r reads none = record {
-  follows =
-      ap (trace ports) (sym (append-nil done) ∙ ap (λ p. done ++ (p ++ [])) (sym none) ∙ refl)
-      ∙ (r.follows (piece ++ []) ∙ (reads.gives [] (λ h. refl) ∙ ap (λ l. Traced (rows_from t l)) nothing));
-}
-  where
-    nothing : drop used piece ++ [] ≡ []
-    nothing = append-nil (drop used piece) ∙ (ap (drop used) none ∙ drop_all used [] (omega arith))
 
 -- the header is refused, whatever follows
 pub header_refused : (ports : List (List ℕ)) (s t : ReaderState) (done piece : List ℕ) (last : Bool) (used : ℕ)

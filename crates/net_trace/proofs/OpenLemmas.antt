@@ -1,9 +1,8 @@
 -- How the run of a text that was opened ends.
-use Rattle.std.proofs.Common.{◌≡◌, ◌≤◌, ◌+◌, ◌-◌, ℕ, drop, take, false, List, [], ◌++◌, length, Option, Some, None}
+use Rattle.std.proofs.Common.{◌≡◌, ◌≤◌, ◌+◌, ◌-◌, ℕ, drop, take, false, List, [], ◌++◌, length, Option, Some}
 use Rattle.std.proofs.Common.{Result}
 use Rattle.std.proofs.Common.{Ok, Err, refl, sym, ap, subst, ◌∙◌, arith}
 use Rattle.std.proofs.lemmas.List.{drop-take}
-use Rattle.std.specs.Io.KnownBytes.{IsAtEnd, prepend_known}
 use Rattle.pbs_io.specs.Outside.{ShelfState, SinkState}
 use Rattle.pbs_base.specs.declared.refusal.Refusal.{Refusal}
 use Rattle.pbs_io.proofs.WrittenLemmas.{append_known-nil}
@@ -17,7 +16,7 @@ use Rattle.net_trace.specs.inner.Steps.{Begins, EndsRows, FinishesLater, OpenedE
 use Rattle.net_trace.specs.inner.Steps.{TakenOf}
 use Rattle.net_trace.proofs.TextLemmas.{traced_on}
 use Rattle.net_trace.proofs.OutcomeLemmas.{Runs, cut_report, no_header, nothing_written}
-use Rattle.net_trace.proofs.StandLemmas.{finished, piece_failed, told_rest}
+use Rattle.net_trace.proofs.StandLemmas.{piece_failed, told_rest}
 
 pub opened_ends : (net : Circuit) (a b : ShelfState) (before now : SinkState) (result : Result (Unit {0}) RunFail)
     → EndsRows net before (a.slots 1).left (b.slots 1).left now result → OpenedEnds net a b before now result
@@ -81,17 +80,6 @@ fault_ends net sink first left taken took open_line few = record {
   taken = taken;
   few = took;
 }
-
--- the trace ends with its header
-pub ended_at_once : (net : Circuit) (before now : SinkState) (first left : Option (List ℕ)) (done : List ℕ)
-    (result : Result (Unit {0}) RunFail) → TakenOf first left done → IsAtEnd left
-    → FinishesLater net before done now result → EndsRows net before first left now result
-ended_at_once net before now first left done result took end f =
-    finished net before now first left left done result took.is end (nothing left) took.few f
-  where
-    nothing : (left : Option (List ℕ)) → left ≡ prepend_known [] left
-    nothing None = refl
-    nothing (Some rest) = refl
 
 pub unused_part : (from to : ℕ) (buffer : List ℕ) → from ≤ to
     → drop from (take to buffer) ≡ take (to - from) (drop from buffer)

@@ -26,15 +26,6 @@ pub record PieceSoFar (net : Circuit) (before : SinkState) (whole behind : List 
   pub next : NextRead net.inputs reader whole behind entries
   pub shown : Shown net before entries report now
 
-pub piece_begun : (net : Circuit) (before now : SinkState) (done piece : List ℕ) (reader : ReaderState)
-    (report : Report) (entries : List Entry) → Read net.inputs reader done piece entries
-    → Shown net before entries report now → PieceSoFar net before (done ++ piece) piece reader report now
-piece_begun net before now done piece reader report entries read shown = record {
-  entries = entries;
-  next = record { done = done; read = read; whole_is = refl };
-  shown = shown;
-}
-
 -- the next row, before its line was added
 row_found : (net : Circuit) (before a : SinkState) (whole behind : List ℕ) (s t : ReaderState) (report : Report)
     (used : ℕ) (row : answers.Row) (e : Entry) → (p : PieceSoFar net before whole behind s report a)

@@ -32,12 +32,6 @@ pub record HasBits (on : ℕ) (bits : ℕ → Bool) (n : ℕ) : Type 0 where
   pub first : (k : ℕ) → k < n → is_on on k ≡ bits k
   pub rest : (k : ℕ) → n ≤ k → is_on on k ≡ false
 
-none_on : (k : ℕ) → is_on 0 k ≡ false
-none_on k = grind (arith, nat_tests)
-
-pub no_bits : (bits : ℕ → Bool) → HasBits 0 bits 0
-no_bits bits = record { first = λ k less. absurd (omega arith); rest = λ k le. none_on k }
-
 or_false : (p : Bool) → (p || false) ≡ p
 or_false true = refl
 or_false false = refl

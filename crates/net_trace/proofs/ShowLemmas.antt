@@ -19,13 +19,9 @@ use Rattle.trace_text.proofs.ReportLemmas.{row_line-same}
 use Rattle.net_trace.specs.Outcomes.{shown_rows}
 use Rattle.net_trace.specs.inner.Steps.{IsNew, Shown, ShownInPart, ShownWhole, ShowsLine}
 use Rattle.net_trace.specs.declared.report.Report.{Report}
-use Rattle.net_trace.proofs.RunLemmas.{front_run, length_more, line_last, names_long, output_shown}
+use Rattle.net_trace.proofs.RunLemmas.{front_run, length_more, line_last, output_shown}
 
 -- ---- one line
-
-pub outputs_there : (names : List (List ℕ)) (net : Circuit) (count : ℕ) → names ≡ output_names net
-    → count ≡ length names → count ≤ length net.outputs
-outputs_there names net count ports is = omega (arith, is, ap length ports, names_long net.outputs)
 
 pub line_shown : {T E : Type 0} (sim : State) (a b : SinkState) (names : List (List ℕ)) (held held_now : List ℕ)
     (row on count : ℕ) (result : Result T E) → names ≡ output_names sim.net → count ≡ length names

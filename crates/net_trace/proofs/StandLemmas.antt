@@ -17,15 +17,11 @@ use Rattle.net_trace.specs.declared.rows.Progress.{Progress}
 use Rattle.net_trace.specs.declared.rows.Progress.TheVariants as progress
 use Rattle.net_trace.specs.inner.Steps.{Advances, EndsRows, Finishes, FinishesLater, OnlyReads, PieceEnds, Read}
 use Rattle.net_trace.specs.inner.Steps.{ReadAll}
-use Rattle.net_trace.specs.inner.Steps.{ReadingFailed, RowsEnd, ShownInPart, ShownWhole, Standing, after}
+use Rattle.net_trace.specs.inner.Steps.{RowsEnd, ShownInPart, ShownWhole, Standing, after}
 use Rattle.net_trace.proofs.TextLemmas.{all_read, traced_on}
 use Rattle.net_trace.proofs.OutcomeLemmas.{all_shown, cut_report, stops_there}
 
 -- ---- the shelf
-
-pub nothing_read : (shelf : ShelfState) → OnlyReads shelf shelf
-nothing_read shelf =
-    record { files = refl; later = omega arith; sound = λ h. h; other = refl; stands = refl }
 
 pub read_only : {E : Type 0} (a b : ShelfState) (buffer : List ℕ) (result : Result ℕ E) → Reads a b 1 buffer result
     → OnlyReads a b
@@ -44,16 +40,6 @@ reads_twice a b c p q = record {
   sound = λ h. q.sound (p.sound h);
   other = q.other ∙ p.other;
   stands = q.stands ∙ p.stands;
-}
-
-pub read_failed : {E : Type 0} (a b : ShelfState) (buffer : List ℕ) (e : E) → Reads a b 1 buffer (Err e)
-    → ReadingFailed a b
-read_failed a b buffer e r = record { rose = r.cause; never = λ calm there. (let h = r.never calm there in cc) }
-
-pub failed_later : (a b c : ShelfState) → OnlyReads a b → ReadingFailed b c → ReadingFailed a c
-failed_later a b c p f = record {
-  rose = let one = p.later in let rose = f.rose in omega arith;
-  never = λ calm there. f.never (p.sound calm) (p.stands ∙ there);
 }
 
 -- ---- what was taken

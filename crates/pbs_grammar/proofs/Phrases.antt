@@ -7,10 +7,10 @@ use Rattle.pbs_text.specs.declared.token.Token.{Token}
 use Rattle.pbs_text.specs.declared.token.Operator.{Operator}
 use Rattle.pbs_text.specs.declared.token.Operator.TheVariants.{StarOp, PlusOp, OptOp}
 use Rattle.pbs_text.specs.declared.token.TokenKind.{TokenKind}
-use Rattle.pbs_text.specs.declared.token.TokenKind.TheVariants.{Name, ProdWord, MainWord, HoldWord, TryWord, AbortWord}
+use Rattle.pbs_text.specs.declared.token.TokenKind.TheVariants.{Name, HoldWord, TryWord, AbortWord}
 use Rattle.pbs_text.specs.declared.token.TokenKind.TheVariants.{ThenWord, Semicolon, Comma, Equals, OpenCurly}
 use Rattle.pbs_text.specs.declared.token.TokenKind.TheVariants.{CloseCurly, OpenRound, CloseRound, OpenSquare}
-use Rattle.pbs_text.specs.declared.token.TokenKind.TheVariants.{CloseSquare, Bar, Tilde, Ampersand, Colon}
+use Rattle.pbs_text.specs.declared.token.TokenKind.TheVariants.{CloseSquare, Bar, Ampersand, Colon}
 use Rattle.pbs_text.specs.Grammar.{token, Second, bit_kind, Numeral, ZeroNumeral, OneNumeral, TwoNumeral, DigitNumeral}
 use Rattle.pbs_text.specs.Grammar.{LongNumeral, numeral_kind, Width, OneBit, TwoBits, MoreBits, width_kind}
 use Rattle.pbs_text.specs.Grammar.{operator_kind, UnitPhrase, Negated, Bracketed, Named, Bit, Compared, AllPhrase}
@@ -26,8 +26,7 @@ use Rattle.pbs_text.specs.Grammar.{decl_tokens, decls_tokens, head_tokens, text_
 use Rattle.pbs_text.specs.places.Holes.{Front, ExprHole, OfGroup, OfProd, OfMain, SeqHole, FirstSeq, NextSeq, ItemHole}
 use Rattle.pbs_text.specs.places.Holes.{FirstItem, NextItem, GroupHole, AsPrim, OfHold, OfBody, OfTrap, OfAfter}
 use Rattle.pbs_text.specs.places.Holes.{TermHole, OfTerminal, OfGuard, InRound, AllHole, FirstAll, NextAll, UnitHole}
-use Rattle.pbs_text.specs.places.Holes.{UnderNot, FirstUnit, NextUnit, front_tokens, before_expr, before_seq}
-use Rattle.pbs_text.specs.places.Holes.{before_item, before_group, before_term, before_all, before_unit}
+use Rattle.pbs_text.specs.places.Holes.{UnderNot, FirstUnit, NextUnit}
 use Rattle.pbs_text.specs.places.Places.{InputHole, FirstInput, NextInput, FirstName, LevelFront, Place, Start, InDecls}
 use Rattle.pbs_text.specs.places.Places.{WantsInput, AfterInputName, WantsWidth, AfterInput, WantsName, AfterName}
 use Rattle.pbs_text.specs.places.Places.{AfterLevelEquals, AfterLevelBit, InLevel, AfterSetColon, AfterSetBit}
@@ -483,13 +482,6 @@ walk-head : (two : Bool) (a b c : Span) (z : List Token) → walk Start (head_to
 walk-head false a b c z = refl
 walk-head true a b c z = refl
 
--- what stands before a declaration leads to it
-walk-front : {two : Bool} (f : Front two) (z : List Token) → walk Start (front_tokens f ++ z) ≡ walk (InDecls f) z
-walk-front {two} f z =
-    ap (walk Start) (append_assoc (head_tokens two f.spec_at f.version_at f.start_at) (decls_tokens f.decls) z)
-    ∙ (walk-head two f.spec_at f.version_at f.start_at (decls_tokens f.decls ++ z)
-    ∙ walk-decls f.decls f.spec_at f.version_at f.start_at z)
-
 -- a text is walked over as a whole
 pub walk-text : (w : TextPhrase) → walk Start (text_tokens w) ≡ Some (Whole w)
 walk-text (OfVersion two p) =
@@ -525,174 +517,3 @@ pub begins_passed : (ts : List Token) → Begins ts → (p : Place) × (walk Sta
 begins_passed ts b =
     let r = walk-append ts b.0 Start (Whole b.1.0) (ap (walk Start) (sym b.1.1) ∙ walk-text b.1.0) in
     (r.0, r.1)
-
--- ---- the tokens before a hole lead to it
-
--- the place where a phrase is wanted; the first item of a group may be wanting
-abbrev pub at_expr : {two : Bool} → ExprHole two → Place
-at_expr (OfGroup o g) = InGroup o g
-at_expr h = WantsItem (FirstItem (FirstSeq h))
-
-abbrev pub at_seq : {two : Bool} → SeqHole two → Place
-at_seq (FirstSeq h) = at_expr h
-at_seq (NextSeq e at h) = WantsItem (FirstItem (NextSeq e at h))
-
-abbrev pub at_item : {two : Bool} → ItemHole two → Place
-at_item (FirstItem h) = at_seq h
-at_item (NextItem s at h) = WantsItem (NextItem s at h)
-
-abbrev pub at_group : {two : Bool} → GroupHole two → Place
-at_group (AsPrim h) = at_item h
-at_group g = WantsGroup g
-
-at_expr-starts : {two : Bool} (h : ExprHole two) (ts : List Token) → Starts ts
-    → walk (at_expr h) ts ≡ walk (WantsItem (FirstItem (FirstSeq h))) ts
-at_expr-starts (OfGroup o g) ts s = walk-starts ts o g s
-at_expr-starts (OfProd f a n q) ts s = refl
-at_expr-starts (OfMain f a q) ts s = refl
-
-at_seq-starts : {two : Bool} (h : SeqHole two) (ts : List Token) → Starts ts
-    → walk (at_seq h) ts ≡ walk (WantsItem (FirstItem h)) ts
-at_seq-starts (FirstSeq h) ts s = at_expr-starts h ts s
-at_seq-starts (NextSeq e at h) ts s = refl
-
-at_item-starts : {two : Bool} (h : ItemHole two) (ts : List Token) → Starts ts
-    → walk (at_item h) ts ≡ walk (WantsItem h) ts
-at_item-starts (FirstItem h) ts s = at_seq-starts h ts s
-at_item-starts (NextItem e at h) ts s = refl
-
-starts_try : (at : Span) (z : List Token) → Starts (token TryWord at ∷ z)
-starts_try at z = record { first = token TryWord at; rest = z; is = refl; same = λ _ _ _. refl }
-
-starts_hold : (at : Span) (z : List Token) → Starts (token HoldWord at ∷ z)
-starts_hold at z = record { first = token HoldWord at; rest = z; is = refl; same = λ _ _ _. refl }
-
-starts_square : (at : Span) (z : List Token) → Starts (token OpenSquare at ∷ z)
-starts_square at z = record { first = token OpenSquare at; rest = z; is = refl; same = λ _ _ _. refl }
-
-opens_group : {two : Bool} (g : GroupHole two) (at : Span) (z : List Token)
-    → walk (at_group g) (token OpenRound at ∷ z) ≡ walk (InGroup at g) z
-opens_group (AsPrim h) at z = at_item-starts h (token OpenRound at ∷ z)
-    (record { first = token OpenRound at; rest = z; is = refl; same = λ _ _ _. refl })
-opens_group (OfHold a o t c colon h) at z = refl
-opens_group (OfBody a h) at z = refl
-opens_group (OfTrap a body b h) at z = refl
-opens_group (OfAfter a body b trap th h) at z = refl
-
-mutual
-  walk-expr_hole : {two : Bool} (h : ExprHole two) (z : List Token)
-      → walk Start (before_expr h ++ z) ≡ walk (at_expr h) z
-  walk-expr_hole (OfGroup at g) z = rw (append_assoc (before_group g) (token OpenRound at ∷ []) z)
-      (walk-group_hole g (token OpenRound at ∷ z) ∙ opens_group g at z)
-  walk-expr_hole (OfProd f a n q) z =
-      ap (walk Start) (append_assoc (front_tokens f) (token ProdWord a ∷ token Name n ∷ token Equals q ∷ []) z)
-      ∙ walk-front f (token ProdWord a ∷ token Name n ∷ token Equals q ∷ z)
-  walk-expr_hole (OfMain f a q) z =
-      ap (walk Start) (append_assoc (front_tokens f) (token MainWord a ∷ token Equals q ∷ []) z)
-      ∙ walk-front f (token MainWord a ∷ token Equals q ∷ z)
-
-  walk-seq_hole : {two : Bool} (h : SeqHole two) (z : List Token) → walk Start (before_seq h ++ z) ≡ walk (at_seq h) z
-  walk-seq_hole (FirstSeq h) z = walk-expr_hole h z
-  walk-seq_hole (NextSeq e at h) z =
-      rw (
-        append_assoc (before_expr h) (expr_tokens e ++ token Bar at ∷ []) z,
-        append_assoc (expr_tokens e)
-            (token Bar at ∷ []) z,
-      )
-      (walk-expr_hole h (expr_tokens e ++ token Bar at ∷ z)
-      ∙ (at_expr-starts h _ (starts-append (expr_tokens e) (token Bar at ∷ z) (starts-expr e))
-      ∙ (walk-expr e h (token Bar at ∷ z) ∙ walk-step (behind_expr e h) _ Bar at z (after_expr-bar e h at))))
-
-  pub walk-item_hole : {two : Bool} (h : ItemHole two) (z : List Token)
-      → walk Start (before_item h ++ z) ≡ walk (at_item h) z
-  walk-item_hole (FirstItem h) z = walk-seq_hole h z
-  walk-item_hole (NextItem s at h) z =
-      rw (
-        append_assoc (before_seq h) (seq_tokens s ++ token Comma at ∷ []) z,
-        append_assoc (seq_tokens s)
-            (token Comma at ∷ []) z,
-      )
-      (walk-seq_hole h (seq_tokens s ++ token Comma at ∷ z)
-      ∙ (at_seq-starts h _ (starts-append (seq_tokens s) (token Comma at ∷ z) (starts-seq s))
-      ∙ (walk-seq s h (token Comma at ∷ z) ∙ walk-step (behind_seq s h) _ Comma at z ((ends-seq s h).comma at))))
-
-  pub walk-group_hole : {two : Bool} (g : GroupHole two) (z : List Token)
-      → walk Start (before_group g ++ z) ≡ walk (at_group g) z
-  walk-group_hole (AsPrim h) z = walk-item_hole h z
-  walk-group_hole (OfHold at o t c colon h) z =
-      rw (
-        append_assoc (before_item h) (token HoldWord at ∷ token OpenSquare o ∷
-            (term_tokens t ++ token CloseSquare c ∷ token Colon colon ∷ [])) z,
-        append_assoc (term_tokens t)
-            (token CloseSquare c ∷ token Colon colon ∷ []) z,
-      )
-      (walk-item_hole h (token HoldWord at ∷ token OpenSquare o ∷
-      (term_tokens t ++ token CloseSquare c ∷ token Colon colon ∷ z))
-      ∙ (at_item-starts h _
-      (starts_hold at (token OpenSquare o ∷ (term_tokens t ++ token CloseSquare c ∷ token Colon colon ∷ z)))
-      ∙ walk-square t (OfGuard at o h) c _ (token Colon colon ∷ z) refl))
-  walk-group_hole (OfBody at h) z =
-      rw (append_assoc (before_item h) (token TryWord at ∷ []) z)
-      (walk-item_hole h (token TryWord at ∷ z) ∙ at_item-starts h _ (starts_try at z))
-  walk-group_hole (OfTrap at body a h) z =
-      rw (
-        append_assoc (before_item h) (token TryWord at ∷ (group_tokens body ++ token AbortWord a ∷ [])) z,
-        append_assoc (group_tokens body) (token AbortWord a ∷ []) z,
-      )
-      (walk-item_hole h (token TryWord at ∷ (group_tokens body ++ token AbortWord a ∷ z))
-      ∙ (at_item-starts h _ (starts_try at (group_tokens body ++ token AbortWord a ∷ z))
-      ∙ walk-group body (OfBody at h) (token AbortWord a ∷ z)))
-  walk-group_hole (OfAfter at body a trap th h) z =
-      rw (
-        append_assoc (before_item h)
-            (token TryWord at ∷ (group_tokens body ++ token AbortWord a ∷
-            (group_tokens trap ++ token ThenWord th ∷ []))) z,
-        append_assoc (group_tokens body) (token AbortWord a ∷ (group_tokens trap ++ token ThenWord th ∷ [])) z,
-        append_assoc (group_tokens trap) (token ThenWord th ∷ []) z,
-      )
-      (walk-item_hole h
-      (token TryWord at ∷ (group_tokens body ++ token AbortWord a ∷ (group_tokens trap ++ token ThenWord th ∷ z)))
-      ∙ (at_item-starts h _
-      (starts_try at (group_tokens body ++ token AbortWord a ∷ (group_tokens trap ++ token ThenWord th ∷ z)))
-      ∙ (walk-group body (OfBody at h) (token AbortWord a ∷ (group_tokens trap ++ token ThenWord th ∷ z))
-      ∙ walk-group trap (OfTrap at body a h) (token ThenWord th ∷ z))))
-
-mutual
-  walk-term_hole : {two : Bool} (h : TermHole two) (z : List Token)
-      → walk Start (before_term h ++ z) ≡ walk (WantsUnit (FirstUnit (FirstAll h))) z
-  walk-term_hole (OfTerminal at h) z =
-      rw (append_assoc (before_item h) (token OpenSquare at ∷ []) z)
-      (walk-item_hole h (token OpenSquare at ∷ z) ∙ at_item-starts h _ (starts_square at z))
-  walk-term_hole (OfGuard a at h) z =
-      rw (append_assoc (before_item h) (token HoldWord a ∷ token OpenSquare at ∷ []) z)
-      (walk-item_hole h (token HoldWord a ∷ token OpenSquare at ∷ z)
-      ∙ at_item-starts h _ (starts_hold a (token OpenSquare at ∷ z)))
-  walk-term_hole (InRound at h) z = rw (append_assoc (before_unit h) (token OpenRound at ∷ []) z)
-      (walk-unit_hole h (token OpenRound at ∷ z))
-
-  walk-all_hole : {two : Bool} (h : AllHole two) (z : List Token)
-      → walk Start (before_all h ++ z) ≡ walk (WantsUnit (FirstUnit h)) z
-  walk-all_hole (FirstAll h) z = walk-term_hole h z
-  walk-all_hole (NextAll t at h) z =
-      rw (
-        append_assoc (before_term h) (term_tokens t ++ token Bar at ∷ []) z,
-        append_assoc (term_tokens t)
-            (token Bar at ∷ []) z,
-      )
-      (walk-term_hole h (term_tokens t ++ token Bar at ∷ z)
-      ∙ (walk-term t h (token Bar at ∷ z) ∙ walk-step (behind_term t h) _ Bar at z (after_term-bar t h at)))
-
-  pub walk-unit_hole : {two : Bool} (h : UnitHole two) (z : List Token)
-      → walk Start (before_unit h ++ z) ≡ walk (WantsUnit h) z
-  walk-unit_hole (UnderNot at h) z = rw (append_assoc (before_unit h) (token Tilde at ∷ []) z)
-      (walk-unit_hole h (token Tilde at ∷ z))
-  walk-unit_hole (FirstUnit h) z = walk-all_hole h z
-  walk-unit_hole (NextUnit a at h) z =
-      rw (
-        append_assoc (before_all h) (all_tokens a ++ token Ampersand at ∷ []) z,
-        append_assoc (all_tokens a)
-            (token Ampersand at ∷ []) z,
-      )
-      (walk-all_hole h (all_tokens a ++ token Ampersand at ∷ z)
-      ∙ (walk-all a h (token Ampersand at ∷ z) ∙ walk-step (behind_all a h) _ Ampersand at z
-      ((ends-all a h).ampersand at)))

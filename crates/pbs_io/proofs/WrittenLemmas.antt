@@ -23,9 +23,6 @@ pub record WritesUpTo (before now : Option (List ℕ)) (text rest : List ℕ) : 
   pub whole : front ++ rest ≡ text
   pub written : now ≡ append_known before front
 
-pub nothing_yet : (before : Option (List ℕ)) (text : List ℕ) → WritesUpTo before before text text
-nothing_yet before text = record { front = []; whole = refl; written = sym (append_known-nil before) }
-
 all_of_drop : (n : ℕ) (rest : List ℕ) → take (length rest - n) (drop n rest) ≡ drop n rest
 all_of_drop n rest = take_all (length rest - n) (drop n rest) (omega (arith, length-drop n rest))
 
@@ -40,16 +37,6 @@ one_piece_more before now next text rest n so_far put = record {
   written = put ∙ (ap (λ w. append_known w (take n rest)) so_far.written
       ∙ append_known-twice before so_far.front (take n rest));
 }
-
-pub all_written : (before now : Option (List ℕ)) (text rest : List ℕ) → WritesUpTo before now text rest → rest ≡ []
-    → now ≡ append_known before text
-all_written before now text rest so_far none = so_far.written
-    ∙ ap (append_known before) (sym (append-nil so_far.front) ∙ (ap (λ l. so_far.front ++ l) (sym none) ∙ so_far.whole))
-
-pub front_written : (before now next : Option (List ℕ)) (text rest : List ℕ) → WritesUpTo before now text rest
-    → next ≡ now → WritesFront before next text
-front_written before now next text rest so_far same = record
-    { front = so_far.front; rest = rest; whole = so_far.whole; written = same ∙ so_far.written }
 
 -- one piece of many was written
 pub piece_written : (before now next : Option (List ℕ)) (text piece rest : List ℕ)

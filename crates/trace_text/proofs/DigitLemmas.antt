@@ -62,15 +62,8 @@ pub wants_digit : (n x : ℕ) (b : List ℕ) (c : ℕ) (more : List ℕ) → nat
     → right n (x ∷ b) ≡ length (x ∷ b) → is_digit c ≡ false → right n (x ∷ b ++ c ∷ more) ≡ length (x ∷ b)
 wants_digit n x b c more other = rw other (digits_stop n (x ∷ b) c more)
 
-pub wants_end : (n x : ℕ) (b more : List ℕ) → nat_eq x 114 ≡ true → right n (x ∷ b) ≡ length (x ∷ b)
-    → right n (x ∷ b ++ more) ≡ length (x ∷ b)
-wants_end n x b more letter = rw letter (λ h. h)
-
 pub first_more : (n c : ℕ) → nat_eq c 114 ≡ false → 0 < n → is_digit c ≡ true → right n (c ∷ []) ≡ 1
 first_more n c other some d = rw other (first_digit n c some d)
-
-pub first_none : (c : ℕ) (more : List ℕ) → nat_eq c 114 ≡ false → right 0 (c ∷ more) ≡ 0
-first_none c more other = rw other refl
 
 pub first_stop : (n c : ℕ) (more : List ℕ) → nat_eq c 114 ≡ false → is_digit c ≡ false → right n (c ∷ more) ≡ 0
 first_stop n c more other d = rw other (digits_stop n [] c more (none n) d)

@@ -33,31 +33,6 @@ written_through a b c held none piece x (Err e) flushed empty put = record {
   cause = let one = flushed.later in let rose = put.cause in omega arith;
 }
 
--- what was held was cut short
-pub flush_cut : {T U E F : Type 0} (a b : SinkState) (held held_now piece : List ℕ) (e : E) (f : F)
-    → Writes {T = T} a b held (Err e) → Holds {T = U} a b held held_now piece (Err f)
-flush_cut a b held held_now piece e f put = record {
-  passed = tt;
-  front = let cut = put.front in record {
-    front = cut.front;
-    rest = cut.rest ++ piece;
-    whole = sym (append_assoc cut.front cut.rest piece) ∙ ap (λ l. l ++ piece) cut.whole;
-    written = cut.written;
-  };
-  later = put.later;
-  cause = put.cause;
-}
-
--- the piece is held too
-pub kept_back : {T E : Type 0} (a : SinkState) (held held_now piece : List ℕ) (x : T) → held_now ≡ held ++ piece
-    → Holds {E = E} a a held held_now piece (Ok x)
-kept_back a held held_now piece x same = record {
-  passed = record { front = []; whole = same; written = sym (append_known-nil a.written) };
-  front = tt;
-  later = omega arith;
-  cause = tt;
-}
-
 -- ---- a whole text
 
 -- all of the text but this rest was written or is held
@@ -66,14 +41,6 @@ pub record HeldUpTo (before now : SinkState) (text rest held : List ℕ) : Type 
   pub joined : done ++ rest ≡ text
   pub passed : PassesOn before.written now.written done held
   pub later : before.faults ≤ now.faults
-
-pub nothing_held : (sink : SinkState) (text held : List ℕ) → held ≡ [] → HeldUpTo sink sink text text held
-nothing_held sink text held none = record {
-  done = [];
-  joined = refl;
-  passed = record { front = []; whole = none; written = sym (append_known-nil sink.written) };
-  later = omega arith;
-}
 
 -- one piece more
 pub piece_held : {T E : Type 0} (a b c : SinkState) (text piece rest held held_now : List ℕ) (x : T)

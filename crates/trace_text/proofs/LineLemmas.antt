@@ -87,10 +87,3 @@ first_open (x ∷ b) h =
     let other : nat_eq x 10 ≡ false = open_head x b h in
     let rest : length (first_line b) ≡ length b = first_open b (open_tail x b h) in
     rw other (omega (arith, rest))
-
-pub newline_more : (b : List ℕ) (c : ℕ) → has_newline b ≡ false → nat_eq c 10 ≡ false
-    → has_newline (b ++ c ∷ []) ≡ false
-newline_more [] c h other = rw other refl
-newline_more (x ∷ b) c h other =
-    let here : nat_eq x 10 ≡ false = open_head x b h in
-    rw here (newline_more b c (open_tail x b h) other)

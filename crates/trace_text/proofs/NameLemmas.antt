@@ -1,13 +1,11 @@
 -- The words of a header, and the ports that they name.
 use Rattle.std.proofs.Common.{◌≡◌, ℕ, suc, ◌+◌, ◌<◌, ◌≤◌, Bool, true, false, nat_eq, ◌||◌, List, [], ◌∷◌, ◌++◌}
-use Rattle.std.proofs.Common.{length, take, drop, drop-cons, get_or, add-one, take-append-drop, Option, Some, None}
+use Rattle.std.proofs.Common.{length, take, drop, drop-cons, get_or, add-one, take-append-drop, Option, Some}
 use Rattle.std.proofs.Common.{Bor, refl, sym, ap, ◌∙◌, arith}
 use Rattle.std.specs.List.{list_any}
-use Rattle.std.proofs.lemmas.Bool.{ne_eqb}
-use Rattle.std.proofs.lemmas.Bool.Decides.{nat_tests}
 use Rattle.std.specs.Prelude.{if◌then◌else◌}
 use Rattle.trace_text.specs.Traces.{onto_first, refused}
-use Rattle.trace_text.specs.Headers.{Order, Refusing, is_known, names_order, port_of, with_port, words}
+use Rattle.trace_text.specs.Headers.{Refusing, is_known, names_order, port_of, with_port, words}
 use Rattle.trace_text.specs.inner.Names.{FindsPort, IsFront, has_byte, length_behind, words_behind}
 use Rattle.trace_text.specs.Steps.{ArePorts}
 
@@ -66,10 +64,6 @@ pub record NamesTo (ports first : List (List ℕ)) (order : List ℕ) (at : ℕ)
     pub known : ArePorts order
     pub short : at + length_behind behind ≤ 67108864
 
-pub names_begun : (ports : List (List ℕ)) (behind : Option (Bor (List ℕ))) → 5 + length_behind behind ≤ 67108864
-    → NamesTo ports (words_behind behind) [] 5 behind
-names_begun ports behind h = record { same = refl; known = tt; short = h }
-
 ports_more : (order : List ℕ) (port : ℕ) → ArePorts order → port < 64 → ArePorts (order ++ port ∷ [])
 ports_more [] port h p = (p, tt)
 ports_more (x ∷ order) port h p = (h.0, ports_more order port h.1 p)
@@ -84,11 +78,6 @@ known_name ports order at name names port found fresh = by (port_of ports name) 
         (refused 2 (at + 1) (at + 1 + length name))) ≡ names_order ports (order ++ port ∷ []) (at + 1 + length name)
         names
     by o e = rw (e, fresh) refl
-
-unknown_name : (ports : List (List ℕ)) (order : List ℕ) (at : ℕ) (name : List ℕ) (names : List (List ℕ))
-    → is_known order (port_of ports name) ≡ false
-    → names_order ports order at (name ∷ names) ≡ Refusing (refused 2 (at + 1) (at + 1 + length name))
-unknown_name ports order at name names h = rw h refl
 
 pub name_passed : (ports first : List (List ℕ)) (order now : List ℕ) (at next : ℕ) (text : Bor (List ℕ))
     (name : List ℕ) (more : Option (Bor (List ℕ))) (port : ℕ) → NamesTo ports first order at (Some text) → words
@@ -105,22 +94,3 @@ name_passed ports first order now at next text name more port so_far split long 
       known = ports_more order port so_far.known found.2;
       short = omega (arith, short, long, count);
     })
-
-pub name_refused : (ports first : List (List ℕ)) (order : List ℕ) (at : ℕ) (text : Bor (List ℕ)) (name : List ℕ)
-    (more : Option (Bor (List ℕ))) → NamesTo ports first order at (Some text) → words text.now ≡ name ∷ words_behind
-    more
-    → FindsPort ports name order None
-    → names_order ports [] 5 first ≡ Refusing (refused 2 (at + 1) (at + 1 + length name))
-name_refused ports first order at text name more so_far split found = so_far.same ∙
-    (ap (names_order ports order at) split ∙ unknown_name ports order at name (words_behind more) found)
-
-eqb_same : (a b : ℕ) → a ≡ b → nat_eq a b ≡ true
-eqb_same a b e = grind (arith, nat_tests)
-
-pub all_named : (ports first : List (List ℕ)) (order : List ℕ) (at : ℕ) → NamesTo ports first order at None
-    → length order ≡ length ports → names_order ports [] 5 first ≡ Order order
-all_named ports first order at so_far all = so_far.same ∙ rw (eqb_same (length order) (length ports) all) refl
-
-pub name_missing : (ports first : List (List ℕ)) (order : List ℕ) (at : ℕ) → NamesTo ports first order at None
-    → (length order ≡ length ports → ⊥) → names_order ports [] 5 first ≡ Refusing (refused 2 at at)
-name_missing ports first order at so_far some = so_far.same ∙ rw (ne_eqb (length order) (length ports) some) refl
