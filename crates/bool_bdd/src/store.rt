@@ -1,5 +1,5 @@
 // The store: its branches, and the answers that it keeps.
-ghost use Rattle.std.specs.Prelude.{◌≡◌, ℕ, ◌<◌, ◌≤◌, ◌&&◌, ◌||◌, not, true, false, [], length, min, IfOk, IfSome};
+ghost use Rattle.std.specs.Prelude.{◌≡◌, ℕ, ◌<◌, ◌≤◌, ◌&&◌, ◌||◌, not, true, false, [], length, IfOk, IfSome};
 ghost use Rattle.std.specs.Prelude.{IsTrue};
 ghost use Rattle.pbs_base.specs.Entries.{bit};
 ghost use Rattle.bool_terms.specs.Terms.{holds, term_inputs_below, term_of};

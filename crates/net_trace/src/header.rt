@@ -1,7 +1,6 @@
 // The header of a trace.
-ghost use Rattle.std.specs.Prelude.{◌≡◌, ◌<◌, ◌≤◌, length};
+ghost use Rattle.std.specs.Prelude.{◌≡◌, length};
 ghost use Rattle.trace_text.specs.States.{start};
-ghost use Rattle.trace_text.specs.declared.answers.Phase.TheVariants as phase;
 ghost use Rattle.net_trace.specs.inner.Steps.{Heads, OnlyReads};
 
 use pbs_base::Refusal;

@@ -1,5 +1,5 @@
 // The rows of a trace.
-ghost use Rattle.std.specs.Prelude.{◌≡◌, ◌≢◌, ◌<◌, ◌≤◌, ◌+◌, ◌++◌, [], ℕ, List, length, Option, Ok, Err, OnOk};
+ghost use Rattle.std.specs.Prelude.{◌≡◌, ◌≢◌, ◌<◌, ◌≤◌, ◌+◌, ◌++◌, ℕ, List, length, Option, Ok, Err, OnOk};
 ghost use Rattle.pbs_io.specs.Outside.{SinkState};
 ghost use Rattle.pbs_base.specs.declared.entry.Entry.{Entry as EntryValue};
 ghost use Rattle.net_core.specs.Circuits.{Circuit};

@@ -16,7 +16,7 @@ pub struct Circles {
 }
 
 impl Circles {
-    ghost use Rattle.std.specs.Prelude.{◌≡◌, ℕ, None};
+    ghost use Rattle.std.specs.Prelude.{◌≡◌, ℕ};
     ghost use Rattle.pbs_check.specs.inner.Searching.{IsMarked};
     ghost use Rattle.pbs_check.specs.inner.Circles.{AreAllRoots, AreCircles, HasRoot, KeepsRoots};
 

@@ -2,7 +2,7 @@
 ghost use Rattle.std.specs.Prelude.{◌≡◌, ◌<◌, ◌++◌, ℕ, ◌⊎◌, length, IfOk, OnOk};
 ghost use Rattle.pbs_names.specs.Numbers.{number_in};
 ghost use Rattle.pbs_check.specs.inner.Walking.{inside, inside_all};
-ghost use Rattle.pbs_check.specs.inner.Links.{link_to, links_in, links_of, AreLinks, HasNext, AreUsers, AddsUsers};
+ghost use Rattle.pbs_check.specs.inner.Links.{link_to, links_in, AreLinks, HasNext, AreUsers, AddsUsers};
 ghost use Rattle.pbs_check.specs.inner.Links.{targets_of, AreTargets};
 
 use pbs_ast::{Expr, Items, Kind, Prods};

@@ -1,5 +1,5 @@
 // A search along lists of numbers, for all to which one of them leads.
-ghost use Rattle.std.specs.Prelude.{◌≡◌, ◌<◌, ◌↔◌, ℕ, IsTrue, None, Some, length, slice_get, Contains, IfOk, OnOk};
+ghost use Rattle.std.specs.Prelude.{◌≡◌, ◌<◌, ◌↔◌, ℕ, IsTrue, Some, length, slice_get, Contains, IfOk, OnOk};
 ghost use Rattle.pbs_check.specs.inner.Links.{HasNext};
 ghost use Rattle.pbs_check.specs.inner.Searching.{Grows, IsMarked, Spreads};
 

@@ -1,7 +1,7 @@
 // The nodes of the expanded tree, and what is counted.
 
-ghost use Rattle.std.specs.Prelude.{◌≡◌, ◌≤◌};
-ghost use Rattle.pbs_ast.specs.Trees.{tree_of, tree_from, spot_of};
+ghost use Rattle.std.specs.Prelude.{◌≡◌};
+ghost use Rattle.pbs_ast.specs.Trees.{tree_of, tree_from};
 ghost use Rattle.pbs_expand.specs.inner.Outcomes.{IsWithin, IsCost, enter};
 ghost use Rattle.pbs_expand.specs.inner.Outcomes.{Outcome, IsOutcome, entered, with_tree};
 ghost use Rattle.pbs_expand.specs.inner.Outcomes.{as_grown};

@@ -1,6 +1,5 @@
 // The walk over the parts.
 
-ghost use Rattle.std.specs.Prelude.{◌≡◌};
 ghost use Rattle.pbs_expand.specs.Parts.{part_of};
 ghost use Rattle.pbs_expand.specs.inner.Outcomes.{IsWithin, IsOutcome, outcome};
 ghost use Rattle.pbs_names.specs.Naming.{action_names, index_of};

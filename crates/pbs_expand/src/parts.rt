@@ -1,6 +1,6 @@
 // What is visited, and the parts that it has.
 
-ghost use Rattle.std.specs.Prelude.{◌≡◌, ◌≤◌, ◌<◌, ◌+◌, length};
+ghost use Rattle.std.specs.Prelude.{◌≡◌};
 ghost use Rattle.std.specs.Option.{option_copied};
 ghost use Rattle.pbs_names.specs.Naming.{prod_names};
 ghost use Rattle.pbs_names.specs.Numbers.{IsNumbering};

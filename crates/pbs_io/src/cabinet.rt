@@ -1,11 +1,9 @@
 // Named files in memory, with two slots: what the shelves in memory share.
-ghost use Rattle.std.specs.Prelude.{◌≡◌, ◌≢◌, ℕ, ◌+◌, ◌-◌, ◌<◌, ◌≤◌, min, [], ◌∷◌, ◌++◌, Ok, Result, length, take};
-ghost use Rattle.std.specs.Prelude.{drop, true, false, IfSome, IfNone, IfOk, OnOk, OnErr, slice_index_or, bytes_eq};
+ghost use Rattle.std.specs.Prelude.{◌≡◌, ◌+◌, ◌-◌, ◌<◌, ◌≤◌, min, [], ◌∷◌, ◌++◌, length, take};
+ghost use Rattle.std.specs.Prelude.{drop, true, false, IfSome, IfNone, OnOk, OnErr, bytes_eq};
 ghost use Rattle.std.specs.Prelude.{string_bytes, vec_len};
-ghost use Rattle.std.specs.Io.KnownBytes.{prepend_known};
 ghost use Rattle.std.specs.List.{position_from};
-ghost use Rattle.std.specs.Io.{ReadsAtMost};
-ghost use Rattle.pbs_io.specs.Outside.{content_of, has_file, with_file, SlotState};
+ghost use Rattle.pbs_io.specs.Outside.{content_of, has_file, with_file};
 
 use pbs_base::Memory;
 use std::alloc::Global;

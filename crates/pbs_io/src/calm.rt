@@ -1,5 +1,5 @@
 // A shelf and a sink that never fail: their counts of faults are always 0.
-ghost use Rattle.std.specs.Prelude.{◌≡◌, ◌<◌, ◌≤◌, length, None, Some, [], false, IfOk, OnOk, OnErr, option_map, refl};
+ghost use Rattle.std.specs.Prelude.{◌≡◌, ◌<◌, ◌≤◌, length, Some, [], false, IfOk, OnOk, OnErr, option_map, refl};
 ghost use Rattle.pbs_io.specs.Outside.{Puts};
 
 use crate::cabinet::Cabinet;

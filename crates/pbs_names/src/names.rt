@@ -1,5 +1,5 @@
 // The names that a specification declares, in order.
-ghost use Rattle.std.specs.Prelude.{◌≡◌, ◌++◌, IfOk, OnOk, map};
+ghost use Rattle.std.specs.Prelude.{◌≡◌, ◌++◌, IfOk, OnOk};
 ghost use Rattle.pbs_names.specs.Naming.{bit_name, bit_names, input_names, action_names, prod_names};
 
 use pbs_ast::{Decls, Prods};

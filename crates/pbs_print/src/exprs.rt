@@ -1,5 +1,5 @@
 // Expressions.
-ghost use Rattle.std.specs.Prelude.{◌≡◌, ◌++◌, OnOk, map, not, codes, decimal};
+ghost use Rattle.std.specs.Prelude.{◌≡◌, ◌++◌, OnOk, map, not, codes};
 ghost use Rattle.pbs_print.specs.Canonical.{term_text, kind_text, expr_text, bounds_text, bracketed, is_empty};
 ghost use Rattle.pbs_print.specs.Canonical.{is_choice, is_list, is_wide, joined};
 

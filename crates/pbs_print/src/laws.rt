@@ -1,10 +1,9 @@
 //! The law that the canonical text of a specification reads back.
-ghost use Rattle.std.specs.Prelude.{ℕ, ◌≡◌, ◌≤◌, List, length};
+ghost use Rattle.std.specs.Prelude.{ℕ, ◌≤◌, List, length};
 ghost use Rattle.pbs_ast.specs.declared.syntax.Spec.{Spec};
 ghost use Rattle.pbs_text.specs.Answers.{StandsFor};
 ghost use Rattle.pbs_ast.specs.Bare.{bare};
 ghost use Rattle.pbs_print.specs.Canonical.{canonical};
-ghost use Rattle.pbs_print.specs.Unspanned.{unspanned};
 ghost use Rattle.pbs_print.specs.Written.{IsWritten, ReadsBack};
 
 /// A canonical text that isn't too long stands for the same specification apart from spans.
