@@ -7,8 +7,8 @@ use Rattle.pbs_base.specs.declared.refusal.Refusal.{Refusal}
 use Rattle.pbs_base.specs.declared.refusal.Subject.TheVariants as Subject
 use Rattle.pbs_ast.specs.declared.syntax.Spec.{Spec}
 use Rattle.pbs_names.specs.StarsAndScopes.{Rule9, Rule10}
-use Rattle.pbs_check.specs.declared.failure.Check.{Check}
-use Rattle.pbs_check.specs.declared.failure.Check.TheVariants as answers
+use Rattle.pbs_check.specs.declared.fail.Check.{Check}
+use Rattle.pbs_check.specs.declared.fail.Check.TheVariants as answers
 use Rattle.pbs_check.specs.declared.uses.Tables.{Tables}
 use Rattle.pbs_check.specs.Checked.{IsBroken, By5, By6, By7, By8, By9, By10, By11, By18, By19, IsUnbroken, IsFailure}
 use Rattle.pbs_check.specs.Checked.{Checks}

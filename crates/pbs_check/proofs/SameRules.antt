@@ -12,8 +12,8 @@ use Rattle.pbs_names.specs.Forms.{Form, Star, Plus, Scope, Terminal, Action, Rep
 use Rattle.pbs_names.specs.Reach.{LiesIn, MayBeEmpty, HasTerminal, HasAction, HasScope}
 use Rattle.pbs_names.specs.StarsAndScopes.{Rule9, EmptyStar, EmptyPlus, Rule10, EmptyTrap, ActionInTrap, ScopeInTrap}
 use Rattle.pbs_names.specs.StarsAndScopes.{NoTerminal}
-use Rattle.pbs_check.specs.declared.failure.Check.{Check}
-use Rattle.pbs_check.specs.declared.failure.Check.TheVariants as answers
+use Rattle.pbs_check.specs.declared.fail.Check.{Check}
+use Rattle.pbs_check.specs.declared.fail.Check.TheVariants as answers
 use Rattle.pbs_check.specs.declared.named.Named.{Named}
 use Rattle.pbs_check.specs.declared.uses.Wanted.{Wanted}
 use Rattle.pbs_check.specs.declared.uses.Wanted.TheVariants as wanted

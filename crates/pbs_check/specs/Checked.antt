@@ -5,8 +5,8 @@ use Rattle.pbs_base.specs.declared.refusal.Refusal.{Refusal}
 use Rattle.pbs_base.specs.declared.refusal.Subject.TheVariants as Subject
 use Rattle.pbs_ast.specs.declared.syntax.Spec.{Spec}
 use Rattle.pbs_names.specs.StarsAndScopes.{Rule9, Rule10}
-use Rattle.pbs_check.specs.declared.failure.Check.{Check}
-use Rattle.pbs_check.specs.declared.failure.Check.TheVariants as answers
+use Rattle.pbs_check.specs.declared.fail.Check.{Check}
+use Rattle.pbs_check.specs.declared.fail.Check.TheVariants as answers
 use Rattle.pbs_check.specs.Least.{span_le}
 use Rattle.pbs_check.specs.Declaring.{Rule5, Rule11}
 use Rattle.pbs_check.specs.Using.{Rule6, Rule7, Rule18, Rule19}

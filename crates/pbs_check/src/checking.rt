@@ -5,7 +5,7 @@ ghost use Rattle.pbs_check.specs.inner.Stages.{ChecksTo, KeepsBelow, refuse};
 ghost use Rattle.pbs_check.specs.inner.Stages.{IsTables};
 ghost use Rattle.pbs_check.specs.inner.Truth.{IsKnown};
 
-use crate::failure::Check;
+use crate::fail::Check;
 use crate::graph::Graph;
 use crate::order::order_of;
 use crate::rules::{rule_5, rule_6, rule_7, rule_8, rule_9, rule_10, rule_11, rule_18, rule_19};

@@ -7,7 +7,7 @@ ghost use Rattle.pbs_ast.specs.Bare.{bare};
 ghost use Rattle.pbs_ast.specs.declared.syntax.Spec.{Spec};
 ghost use Rattle.pbs_names.specs.Naming.{input_names, action_names};
 ghost use Rattle.pbs_check.specs.Checked.{Checks, IsBroken, IsFirst, IsUnbroken};
-ghost use Rattle.pbs_check.specs.declared.failure.Check.{Check};
+ghost use Rattle.pbs_check.specs.declared.fail.Check.{Check};
 
 /// There are at most 64 inputs, the bits of buses among them, at most 64 actions, and at most 64 levels.
 pub fn within_limits()

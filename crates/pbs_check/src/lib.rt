@@ -5,7 +5,7 @@ mod checking;
 mod circles;
 mod declaring;
 mod facts;
-mod failure;
+mod fail;
 mod graph;
 pub mod laws;
 mod least;
@@ -20,4 +20,4 @@ mod uses;
 mod walks;
 
 pub use checking::check_spec;
-pub use failure::Check;
+pub use fail::Check;

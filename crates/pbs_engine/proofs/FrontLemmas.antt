@@ -9,7 +9,7 @@ use Rattle.pbs_ast.specs.Bare.{bare}
 use Rattle.pbs_check.specs.Checked.{IsUnbroken, By9, By10}
 use Rattle.pbs_expand.specs.Expanded.{Gives}
 use Rattle.pbs_expand.specs.Ready.{IsReady, NamesDeclared}
-use Rattle.pbs_expand.specs.declared.failure.Expand.TheVariants as expands
+use Rattle.pbs_expand.specs.declared.fail.Expand.TheVariants as expands
 use Rattle.pbs_engine.specs.declared.fail.EngineFail.{EngineFail}
 use Rattle.pbs_engine.specs.declared.fail.EngineFail.TheVariants as fails
 use Rattle.pbs_engine.specs.declared.front.Found.{Found}

@@ -10,8 +10,8 @@ use Rattle.pbs_expand.specs.Walks.{Walk, Beyond, Terminal, Name, Star, Hold, Pai
 use Rattle.pbs_expand.specs.Visits.{visits, first_over, numbered}
 use Rattle.pbs_expand.specs.Wide.{first_too_wide}
 use Rattle.pbs_expand.specs.Expanded.{Gives, expanded, refusal, main_walk, nothing_yet, first_refusal}
-use Rattle.pbs_expand.specs.declared.failure.Expand.{Expand}
-use Rattle.pbs_expand.specs.declared.failure.Expand.TheVariants as answers
+use Rattle.pbs_expand.specs.declared.fail.Expand.{Expand}
+use Rattle.pbs_expand.specs.declared.fail.Expand.TheVariants as answers
 use Rattle.pbs_expand.proofs.BareTerms.{written_bare}
 use Rattle.pbs_expand.proofs.BareParts.{bare_part, bare_shape, shape_bare, span_bare}
 

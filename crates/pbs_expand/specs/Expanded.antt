@@ -7,8 +7,8 @@ use Rattle.pbs_base.specs.declared.refusal.Subject.TheVariants as Subject
 use Rattle.pbs_ast.specs.declared.syntax.Spec.{Spec}
 use Rattle.pbs_ast.specs.declared.main_tree.Main.{Main}
 use Rattle.pbs_expand.specs.declared.build.Counters.{Counters}
-use Rattle.pbs_expand.specs.declared.failure.Expand.{Expand}
-use Rattle.pbs_expand.specs.declared.failure.Expand.TheVariants as answers
+use Rattle.pbs_expand.specs.declared.fail.Expand.{Expand}
+use Rattle.pbs_expand.specs.declared.fail.Expand.TheVariants as answers
 use Rattle.pbs_expand.specs.Parts.{Whole}
 use Rattle.pbs_expand.specs.Walks.{Walk, walk}
 use Rattle.pbs_expand.specs.Visits.{visits, first_over, numbered}

@@ -6,7 +6,7 @@ ghost use Rattle.pbs_expand.specs.Expanded.{Gives, expanded, over_limit, refused
 ghost use Rattle.pbs_expand.specs.Ready.{IsReady, NamesDeclared};
 
 use crate::build::{Counters, Stop};
-use crate::failure::Expand;
+use crate::fail::Expand;
 use crate::growth::grow;
 use crate::parts::Part;
 use pbs_ast::{Main, Spec, Tree, first_wide};

@@ -17,7 +17,7 @@ ghost use Rattle.pbs_ast.specs.declared.syntax.Expr.{Expr};
 ghost use Rattle.pbs_ast.specs.declared.syntax.Spec.{Spec};
 ghost use Rattle.pbs_names.specs.Forms.{Repeat, form};
 ghost use Rattle.pbs_expand.specs.declared.build.Counters.{Counters};
-ghost use Rattle.pbs_expand.specs.declared.failure.Expand.{Expand};
+ghost use Rattle.pbs_expand.specs.declared.fail.Expand.{Expand};
 ghost use Rattle.pbs_expand.specs.Expanded.{Gives, expanded, main_walk, over_limit, refusal};
 ghost use Rattle.pbs_expand.specs.Parts.{Whole};
 ghost use Rattle.pbs_expand.specs.Visits.{numbered};

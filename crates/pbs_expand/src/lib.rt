@@ -3,11 +3,11 @@
 
 mod build;
 mod expansion;
-mod failure;
+mod fail;
 mod growth;
 pub mod laws;
 mod parts;
 mod terms;
 
 pub use expansion::expand;
-pub use failure::Expand;
+pub use fail::Expand;

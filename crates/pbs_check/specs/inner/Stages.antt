@@ -9,8 +9,8 @@ use Rattle.pbs_ast.specs.declared.syntax.Level.{Level}
 use Rattle.pbs_ast.specs.declared.syntax.Spec.{Spec}
 use Rattle.pbs_names.specs.Naming.{inputs_of, input_names, action_names, prod_names}
 use Rattle.pbs_names.specs.Numbers.{IsNumbering}
-use Rattle.pbs_check.specs.declared.failure.Check.{Check}
-use Rattle.pbs_check.specs.declared.failure.Check.TheVariants as answers
+use Rattle.pbs_check.specs.declared.fail.Check.{Check}
+use Rattle.pbs_check.specs.declared.fail.Check.TheVariants as answers
 use Rattle.pbs_check.specs.declared.named.Named.{Named}
 use Rattle.pbs_check.specs.declared.uses.Look.{Look}
 use Rattle.pbs_check.specs.declared.uses.Tables.{Tables}

@@ -3,7 +3,7 @@ use Rattle.pbs_text.specs.Answers.{Refuses}
 use Rattle.pbs_text.specs.declared.fail.ReadSpec.TheVariants as reads
 use Rattle.pbs_ast.specs.Bare.{bare}
 use Rattle.pbs_check.specs.Checked.{Checks}
-use Rattle.pbs_check.specs.declared.failure.Check.TheVariants as checks
+use Rattle.pbs_check.specs.declared.fail.Check.TheVariants as checks
 use Rattle.pbs_engine.specs.Accepted.{OnReading, OnRules}
 use Rattle.pbs_engine.proofs.front.find.Goals as goal
 

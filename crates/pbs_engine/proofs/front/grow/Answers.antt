@@ -1,6 +1,6 @@
 use Rattle.std.proofs.Common.{Ok, Err}
 use Rattle.pbs_expand.specs.Expanded.{Gives}
-use Rattle.pbs_expand.specs.declared.failure.Expand.TheVariants as expands
+use Rattle.pbs_expand.specs.declared.fail.Expand.TheVariants as expands
 use Rattle.pbs_engine.proofs.FrontLemmas.{is_ready, too_large, is_found}
 use Rattle.pbs_engine.proofs.front.grow.Goals as goal
 

@@ -1,6 +1,6 @@
 // How the checks fail.
 ghost use Rattle.std.specs.Prelude.{◌≡◌};
-ghost use Rattle.pbs_check.specs.declared.failure.Check.TheVariants as variants;
+ghost use Rattle.pbs_check.specs.declared.fail.Check.TheVariants as variants;
 
 use pbs_base::Refusal;
 use thiserror::Error;
