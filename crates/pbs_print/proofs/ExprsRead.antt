@@ -23,7 +23,8 @@ use Rattle.pbs_print.specs.Unspanned.{unspanned_exprs, unspanned_expr}
 use Rattle.pbs_text.specs.Nesting.{Opened, Round, closed}
 use Rattle.pbs_print.proofs.TextPieces.{InBrackets}
 use Rattle.pbs_print.proofs.Proper.{Proper, proper-number}
-use Rattle.pbs_print.proofs.TermsRead.{Each, each-end, lower-brackets, lower, low, some_more, ItemsRead, term_is_read}
+use Rattle.pbs_ast.proofs.Items.{Each, each-end}
+use Rattle.pbs_print.proofs.TermsRead.{lower-brackets, lower, low, some_more, ItemsRead, term_is_read}
 use Rattle.pbs_print.proofs.ExprPieces.{ExprList, SeqOf, ChoiceOf, wraps, KindIs, KindsAre}
 use Rattle.pbs_print.proofs.ExprPhrases.{unspanned-row}
 

@@ -25,7 +25,7 @@ use Rattle.pbs_print.specs.Unspanned.{no_span, unspanned_kind, unspanned_decl, u
 use Rattle.pbs_print.specs.Unspanned.{unspanned_prod, unspanned}
 use Rattle.pbs_print.proofs.TextPieces.{Piece, Blank, Sign, Word, Stands, Written, one_digit}
 use Rattle.pbs_print.proofs.TermPieces.{bit_pieces}
-use Rattle.pbs_print.proofs.TermsRead.{Each}
+use Rattle.pbs_ast.proofs.Items.{Each}
 use Rattle.pbs_print.proofs.TermPhrases.{map-end, bit-token}
 use Rattle.pbs_print.proofs.ExprPieces.{kind_pieces}
 use Rattle.pbs_print.proofs.ExprPhrases.{finds_expr}

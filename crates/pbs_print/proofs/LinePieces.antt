@@ -16,7 +16,7 @@ use Rattle.pbs_print.specs.Canonical.{set_text, level_line, prod_line, canonical
 use Rattle.pbs_print.proofs.TextPieces.{Piece, Blank, Sign, Word, Digits, text, text-append, IsParted, IsReadable, Flat}
 use Rattle.pbs_print.proofs.TextPieces.{ReadsOn}
 use Rattle.pbs_print.proofs.TermPieces.{bit_pieces, text-bit, bit-reads, bit-flat}
-use Rattle.pbs_print.proofs.TermsRead.{Each}
+use Rattle.pbs_ast.proofs.Items.{Each}
 use Rattle.pbs_print.proofs.ExprPieces.{kind_pieces, text-kind, KindIs, kind-reads, kind-flat}
 use Rattle.pbs_lex.proofs.Found.{IsWord, IsSmall}
 use Rattle.pbs_text.specs.declared.token.TokenKind.TheVariants as kind

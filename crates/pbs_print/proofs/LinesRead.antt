@@ -1,6 +1,7 @@
 -- A specification that is read can be written.
 use Rattle.std.proofs.Common.{ℕ, zero, suc, List, [], ◌∷◌, ◌++◌, Bool, true, false, refl, subst, append_assoc, arith}
 use Rattle.pbs_base.specs.declared.refusal.Span.{Span}
+use Rattle.pbs_ast.proofs.Items.{Each, each-end, each-append}
 use Rattle.pbs_text.specs.declared.token.Token.{Token}
 use Rattle.pbs_text.specs.declared.token.TokenKind.TheVariants as kind
 use Rattle.pbs_text.specs.Grammar.{token, bit_kind, OneBit, TwoBits, MoreBits, InputPhrase, OneWire, Bus, InputsPhrase}
@@ -11,13 +12,8 @@ use Rattle.pbs_text.specs.Grammar.{sets_tokens, decl_tokens, decls_tokens, spec_
 use Rattle.pbs_text.specs.Trees.{declared, input_of, inputs_of, names_of, sets_of, Declared, with_decl, declared_by}
 use Rattle.pbs_text.specs.Trees.{spec_of, expr_tree, word_at}
 use Rattle.pbs_print.proofs.Proper.{Proper}
-use Rattle.pbs_print.proofs.TermsRead.{Each, each-end}
 use Rattle.pbs_print.proofs.ExprsRead.{expr_is_read}
 use Rattle.pbs_print.proofs.LinePieces.{DeclIs, ActionIs, SetIs, LevelIs, ProdIs, SpecIs}
-
-each-append : {A : Type 0} (P : A → Type 0) (xs ys : List A) → Each P xs → Each P ys → Each P (xs ++ ys)
-each-append P [] ys h k = k
-each-append P (x ∷ xs) ys h k = (h.0, each-append P xs ys h.1 k)
 
 -- a token that says nothing by itself
 bit-read : (bytes : List ℕ) (b : Bool) (at : Span) (z : List Token) → Proper bytes [] (token (bit_kind b) at ∷ z)

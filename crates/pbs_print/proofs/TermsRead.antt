@@ -7,6 +7,7 @@ use Rattle.pbs_ast.specs.declared.syntax.SpecTerm as node
 use Rattle.pbs_ast.specs.declared.syntax.SpecTerm.{SpecTerm, Row_of-SpecTerm, end_of-SpecTerm, more_of-SpecTerm}
 use Rattle.pbs_ast.specs.declared.syntax.SpecTerm.{items-the_row-SpecTerm, items_hidden-the_row-SpecTerm-0}
 use Rattle.pbs_ast.specs.declared.syntax.SpecTerm.TheBlock.{hidden-the_row-SpecTerm-0}
+use Rattle.pbs_ast.proofs.Items.{Each, each-end}
 use Rattle.pbs_text.specs.declared.token.Token.{Token}
 use Rattle.pbs_text.specs.declared.token.TokenKind.TheVariants as kind
 use Rattle.pbs_text.specs.Grammar.{token, UnitPhrase, Negated, Bracketed, Named, Bit, Compared, AllPhrase, OneUnit}
@@ -20,15 +21,6 @@ use Rattle.pbs_print.proofs.TextPieces.{InBrackets}
 use Rattle.pbs_print.proofs.Proper.{Proper, proper-number}
 use Rattle.pbs_print.proofs.TermPieces.{TermList, AllOf, AnyOf, wraps, TermIs, TermsAre}
 use Rattle.pbs_print.proofs.TermPhrases.{unspanned-row}
-
--- what holds of each
-abbrev pub Each : {A : Type 0} → (A → Type 0) → List A → Type 0
-Each P [] = Unit {0}
-Each P (x ∷ xs) = P x × Each P xs
-
-pub each-end : {A : Type 0} (P : A → Type 0) (xs : List A) (x : A) → Each P xs → P x → Each P (xs ++ x ∷ [])
-each-end P [] x h p = (p, tt)
-each-end P (y ∷ xs) x h p = (h.0, each-end P xs x h.1 p)
 
 -- ---- less nesting is no harder
 
