@@ -125,9 +125,10 @@ impl<'a> Report<'a> {
             → Shown net before entries self.old (K.state sink.old)
             → OnErr result (ShownInPart net before entries (end_line (length entries)) (K.state sink.new)) }
     {
-        let Ok(()) = hold_end(&mut self.held, sink, self.rows) else {
+        let held = &mut self.held;
+        let Ok(()) = hold_end(held, sink, self.rows) else {
             return Err(WriteFail::Fault);
         };
-        self.held.flush(sink)
+        held.flush(sink)
     }
 }
