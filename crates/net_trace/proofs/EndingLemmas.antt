@@ -1,6 +1,6 @@
 -- How a call ends, by how a call ends that is a part of it.
-use Rattle.std.proofs.Common.{◌≡◌, ◌≤◌, ◌+◌, ℕ, true, List, [], ◌∷◌, ◌++◌, length, Option, Some, None, Result, Ok, Err}
-use Rattle.std.proofs.Common.{refl, sym, ap, subst, ◌∙◌, inl, inr, arith}
+use Rattle.std.proofs.Common.{◌≡◌, ◌≤◌, ◌+◌, ℕ, List, [], ◌∷◌, ◌++◌, length, Option, Some, None, Result, Ok, Err}
+use Rattle.std.proofs.Common.{refl, sym, subst, ◌∙◌, inl, inr, arith}
 use Rattle.pbs_io.specs.Outside.{ShelfState, SlotState, SinkState, NamedFile, GoesOn}
 use Rattle.pbs_io.specs.Taken.{TakenFrom, TakesAtMost, Untouched}
 use Rattle.pbs_io.proofs.WrittenLemmas.{append_known-nil}

@@ -1,7 +1,6 @@
 -- What a netlist gives on a trace.
-use Rattle.std.specs.Prelude.{◌≡◌, ℕ, suc, List, [], ◌++◌, length, map, Option, Some, None}
+use Rattle.std.specs.Prelude.{◌≡◌, ℕ, suc, List, [], ◌++◌, length, Option, Some, None}
 use Rattle.pbs_base.specs.declared.refusal.Refusal.{Refusal}
-use Rattle.net_core.specs.declared.netlist.Output.{Output}
 use Rattle.net_core.specs.Rows.{Row}
 use Rattle.net_core.specs.Circuits.{Circuit, output_names}
 use Rattle.net_core.specs.Runs.{output_value}

@@ -1,5 +1,5 @@
 -- How much of a trace was taken from the shelf, and what is written by then.
-use Rattle.std.specs.Prelude.{◌≡◌, ℕ, ◌≤◌, true, false, List, [], ◌∷◌, ◌++◌, length, Some}
+use Rattle.std.specs.Prelude.{◌≡◌, ℕ, ◌≤◌, false, List, [], ◌∷◌, ◌++◌, length}
 use Rattle.pbs_io.specs.Outside.{SlotState}
 use Rattle.pbs_io.specs.Taken.{TakenFrom}
 use Rattle.pbs_base.specs.declared.entry.Entry.{Entry}
