@@ -1,8 +1,6 @@
 // Declarations.
-ghost use Rattle.std.specs.Prelude.{ℕ, Bool, ◌≡◌, ◌≤◌, ◌<◌, ◌+◌, ◌∷◌, ◌++◌, [], length, true, IfOk, IfErr, MatchOption};
-ghost use Rattle.std.specs.Prelude.{option_map};
+ghost use Rattle.std.specs.Prelude.{◌≡◌, IfOk, IfErr, option_map};
 ghost use Rattle.pbs_ast.specs.Bare.{bare_expr, bare_prod};
-ghost use Rattle.pbs_text.specs.Grammar.{token};
 ghost use Rattle.pbs_text.specs.places.Steps.{bit_of, width_of};
 ghost use Rattle.pbs_text.specs.Trees.{width_value, declared};
 ghost use Rattle.pbs_descent.specs.Descent.{NoFront, BeginsWith, front_refusal};

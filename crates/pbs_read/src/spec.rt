@@ -1,15 +1,12 @@
 // Whole texts.
-ghost use Rattle.std.specs.Prelude.{ℕ, Bool, List, Result, ◌≡◌, ◌≤◌, ◌<◌, ◌+◌, ◌∷◌, ◌++◌, [], length, true, Ok, IfOk};
-ghost use Rattle.std.specs.Prelude.{IfErr, MatchOption, option_map};
+ghost use Rattle.std.specs.Prelude.{◌≡◌, ◌≤◌, length, IfOk, IfErr, MatchOption};
 ghost use Rattle.pbs_base.specs.declared.refusal.Refusal.{Refusal};
 ghost use Rattle.pbs_ast.specs.declared.syntax.Spec.{Spec};
 ghost use Rattle.pbs_text.specs.declared.fail.ReadSpec.TheVariants as answers;
 ghost use Rattle.pbs_ast.specs.Bare.{bare, bare_expr};
-ghost use Rattle.pbs_text.specs.Grammar.{TextPhrase};
 ghost use Rattle.pbs_text.specs.Refusals.{refusal};
 ghost use Rattle.pbs_text.specs.places.Steps.{version_of};
-ghost use Rattle.pbs_text.specs.Trees.{text_spec};
-ghost use Rattle.pbs_descent.specs.Descent.{NoFront, front_refusal};
+ghost use Rattle.pbs_descent.specs.Descent.{NoFront};
 ghost use Rattle.pbs_read.specs.inner.TextDescent.{bare_lists, nothing_yet, made_spec, decl_word, ReadsVersion};
 ghost use Rattle.pbs_read.specs.inner.TextDescent.{StopsVersion, TakesDeclWord, ReadsDecl, StopsDecl, ReadsDecls};
 ghost use Rattle.pbs_read.specs.inner.TextDescent.{StopsDecls, ReadsMain, StopsMain, ReadsText, StopsText};
