@@ -7,7 +7,5 @@ pub mod Reached
 pub mod Prefix
 pub mod Places
 pub mod LastPlaces
-pub mod Grids
-pub mod Steps
 pub mod Blanks
 pub mod Turns

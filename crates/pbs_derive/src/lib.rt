@@ -1,9 +1,4 @@
-//! The model: derivations over the expanded tree of main, their laws, and an evaluator of what main covers.
+//! The model: derivations over the expanded tree of main, and their laws.
 #![tactic(auto)]
 
-mod grid;
 pub mod laws;
-mod step;
-mod tables;
-
-pub use tables::covers;

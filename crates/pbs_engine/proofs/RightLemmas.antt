@@ -17,8 +17,8 @@ use Rattle.net_core.specs.Circuits.{Circuit}
 use Rattle.vlog_text.specs.Emitted.{emitted}
 use Rattle.vlog_text.specs.Reading as netlists
 use Rattle.vlog_read.specs.Read.{Reads}
-use Rattle.vlog_read.specs.declared.fail.VlogFail.{VlogFail}
-use Rattle.vlog_read.specs.declared.fail.VlogFail.TheVariants as reads
+use Rattle.vlog_text.specs.declared.fail.VlogFail.{VlogFail}
+use Rattle.vlog_text.specs.declared.fail.VlogFail.TheVariants as reads
 use Rattle.pbs_controller.specs.Controllers.{IsController, IsWritable}
 use Rattle.pbs_controller.specs.Ports.{ports_of}
 use Rattle.pbs_engine.specs.declared.fail.EngineFail.{EngineFail}

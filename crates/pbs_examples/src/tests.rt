@@ -7,7 +7,7 @@ ghost use Rattle.pbs_examples.specs.inner.Spots.{at};
 use bool_terms::Term;
 use pbs_ast::{Main, Tree, TreeKind};
 use pbs_base::{Memory, Span};
-use pbs_derive::covers;
+use pbs_covers::covers;
 use std::alloc::Global;
 use std::test::Fail;
 

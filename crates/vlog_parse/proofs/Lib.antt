@@ -1,4 +1,3 @@
-pub mod Lexes
 pub mod Walks
 pub mod Finishes
 pub mod Depths
@@ -13,4 +12,3 @@ pub mod Fits
 pub mod Fitting
 pub mod Counts
 pub mod Raws
-pub mod Answering

@@ -19,7 +19,7 @@ use Rattle.vlog_parse.specs.inner.Places.{Place, Start, Whole}
 use Rattle.vlog_parse.specs.inner.Steps.{step, walk}
 use Rattle.vlog_parse.specs.inner.Machine.{Next, next, IsNext, IsFound, is_whole, nothing}
 use Rattle.vlog_parse.specs.Parsed.{IsReadAs}
-use Rattle.vlog_parse.specs.declared.fail.ParseFail.{ParseFail}
+use Rattle.vlog_text.specs.declared.fail.VlogFail.{VlogFail}
 use Rattle.vlog_parse.proofs.Walks.{walk-then}
 use Rattle.vlog_parse.proofs.Exact.{walked_text, leaves_at, leaves_end}
 use Rattle.vlog_parse.proofs.Standing.{StandsAt, AtStart, AtEnd, Follows, whole_found}
@@ -141,7 +141,7 @@ pub loop_over : (bytes : List ℕ) (ts : List Token) (i : ℕ) (f : Found) (s : 
     → length ts ≤ i → Reached bytes ts f s
 loop_over bytes ts i f s h le = subst (λ l. Reached bytes l f s) (take_all i ts le) h
 
-pub found_whole : (bytes : List ℕ) (ts : List Token) (f : Found) (s : State) (r : Result RawNetlist ParseFail)
+pub found_whole : (bytes : List ℕ) (ts : List Token) (f : Found) (s : State) (r : Result RawNetlist VlogFail)
     → Reached bytes ts f s → is_whole s ≡ true → IfOk r (λ raw. IsFound f raw) → IfOk r (λ raw. IsReadAs bytes ts raw)
 found_whole bytes ts f s (Ok raw) h e found = reached_whole bytes ts f s raw h e found
 found_whole bytes ts f s (Err x) h e found = tt

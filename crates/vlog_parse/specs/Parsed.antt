@@ -1,24 +1,16 @@
 -- What the bytes of a netlist are parsed as.
-use Rattle.std.specs.Prelude.{ℕ, ◌≡◌, ◌<◌, List, length, Result, Ok, Err}
+use Rattle.std.specs.Prelude.{ℕ, ◌≡◌, ◌<◌, List, length, Ok, Err}
 use Rattle.pbs_base.specs.declared.refusal.Span.{Span}
 use Rattle.pbs_base.specs.declared.refusal.Refusal.{Refusal}
 use Rattle.vlog_text.specs.declared.raw.RawNetlist.{RawNetlist}
 use Rattle.vlog_text.specs.declared.token.Token.{Token}
 use Rattle.vlog_text.specs.Grammar.{TextPhrase, IsText}
 use Rattle.vlog_text.specs.Lexing.{tokens}
-use Rattle.vlog_text.specs.Raw.{IsRaw}
-use Rattle.vlog_text.specs.Reading.{IsShortVerilog, IsRead, LeavesGrammar}
+use Rattle.vlog_text.specs.Reading.{IsShortVerilog, LeavesGrammar}
 use Rattle.vlog_text.specs.Refusing.{refusal}
 use Rattle.vlog_text.specs.Trees.{raw_of}
-use Rattle.vlog_parse.specs.declared.fail.ParseFail.{ParseFail}
-use Rattle.vlog_parse.specs.declared.fail.ParseFail.TheVariants.{Refused, Memory}
-
--- the text is read as a phrase, and this is the raw netlist that it stands for
-pub record IsParsed (bytes : List ℕ) (raw : RawNetlist) : Type 0 where
-  pub phrase : TextPhrase
-  pub is_read : IsRead bytes phrase
-  pub raw_is : raw ≡ raw_of bytes phrase
-  pub is_raw : IsRaw raw
+use Rattle.vlog_text.specs.declared.fail.VlogFail.{VlogFail}
+use Rattle.vlog_text.specs.declared.fail.VlogFail.TheVariants.{Refused, Memory}
 
 -- this is the first rule of 1 to 3 that the text breaks, and its place
 pub data IsUnreadable (bytes : List ℕ) : Refusal → Type 0 where
@@ -27,17 +19,6 @@ pub data IsUnreadable (bytes : List ℕ) : Refusal → Type 0 where
   ByGrammar : IsShortVerilog bytes → (found : List Token) → tokens bytes ≡ Ok found → (at : Span)
       → LeavesGrammar (length bytes) found at → IsUnreadable bytes (refusal 3 at)
 
--- what is said of a text, unless memory ran out
-abbrev pub Parses : List ℕ → Result RawNetlist ParseFail → Type 0
-Parses bytes (Ok raw) = IsParsed bytes raw
-Parses bytes (Err (Refused r)) = IsUnreadable bytes r
-Parses bytes (Err Memory) = Unit {0}
-
--- rule 2 is broken first at this span, unless memory ran out
-abbrev pub StopsLexing : List ℕ → ParseFail → Type 0
-StopsLexing bytes Memory = Unit {0}
-StopsLexing bytes (Refused r) = (at : Span) × (r ≡ refusal 2 at) × (tokens bytes ≡ Err at)
-
 -- the tokens are read as a phrase, and this is the raw netlist that it stands for
 pub record IsReadAs (bytes : List ℕ) (ts : List Token) (raw : RawNetlist) : Type 0 where
   pub phrase : TextPhrase
@@ -45,6 +26,6 @@ pub record IsReadAs (bytes : List ℕ) (ts : List Token) (raw : RawNetlist) : Ty
   pub raw_is : raw ≡ raw_of bytes phrase
 
 -- rule 3 is broken first at this span, unless memory ran out
-abbrev pub StopsReading : ℕ → List Token → ParseFail → Type 0
+abbrev pub StopsReading : ℕ → List Token → VlogFail → Type 0
 StopsReading end ts Memory = Unit {0}
 StopsReading end ts (Refused r) = (at : Span) × (r ≡ refusal 3 at) × LeavesGrammar end ts at

@@ -1,4 +1,3 @@
-pub mod Lexing
 pub mod Places
 pub mod Steps
 pub mod Machine

@@ -1,43 +1,26 @@
-// Whole texts.
-ghost use Rattle.std.specs.Prelude.{◌≡◌, ◌≤◌, length, IfOk, IfErr};
-ghost use Rattle.vlog_parse.specs.declared.fail.ParseFail.TheVariants as answers;
+// The tokens of a whole text.
+ghost use Rattle.std.specs.Prelude.{◌≡◌, IfOk, IfErr};
+ghost use Rattle.vlog_text.specs.declared.fail.VlogFail.TheVariants as answers;
 ghost use Rattle.vlog_text.specs.Refusing.{refusal};
 ghost use Rattle.vlog_parse.specs.inner.Machine as machine;
 ghost use Rattle.vlog_parse.specs.inner.Machine.{IsFound};
-ghost use Rattle.vlog_parse.specs.Parsed.{IsReadAs, StopsReading, Parses};
+ghost use Rattle.vlog_parse.specs.Parsed.{IsReadAs, StopsReading};
 
-use crate::fail::ParseFail;
 use crate::state::{Fixed, Found, State};
 use crate::step::step;
-use crate::tokens::tokens_of;
 use pbs_base::{Listed, Refusal, Span, Subject};
 use std::alloc::Global;
-use vlog_text::{RawNetlist, Token};
-
-/// How many bytes a text may have.
-const MAX_BYTES: usize = 67_108_864;
+use vlog_text::{RawNetlist, Token, VlogFail};
 
 // Why a text is refused by this rule.
-fn refused(rule: u8, span: Span) -> ParseFail
+fn refused(rule: u8, span: Span) -> VlogFail
     ensures { result ≡ answers.Refused (refusal rule span) }
 {
-    ParseFail::Refused(Refusal {
+    VlogFail::Refused(Refusal {
         subject: Subject::Netlist,
         rule,
         span,
     })
-}
-
-fn too_long() -> ParseFail
-    ensures { result ≡ answers.Refused (refusal 1 (record { start = 67108864; end = 67108865 })) }
-{
-    refused(
-        1,
-        Span {
-            start: 67_108_864,
-            end: 67_108_865,
-        },
-    )
 }
 
 fn nothing(alloc: Global) -> Found
@@ -62,7 +45,7 @@ fn is_whole(state: State) -> bool
 }
 
 // The netlist that was found.
-fn netlist_of(found: Found) -> Result<RawNetlist, ParseFail>
+fn netlist_of(found: Found) -> Result<RawNetlist, VlogFail>
     ensures ok { IfOk result (λ raw. IsFound found raw) }
     ensures err { IfErr result (λ e. e ≡ answers.Memory) }
 {
@@ -81,12 +64,18 @@ fn netlist_of(found: Found) -> Result<RawNetlist, ParseFail>
             gates,
             regs,
         }),
-        None => Err(ParseFail::Memory),
+        None => Err(VlogFail::Memory),
     }
 }
 
-// What the tokens of a text are read as.
-fn read(alloc: Global, bytes: &[u8], tokens: &[Token], end: u32) -> Result<RawNetlist, ParseFail>
+/// The netlist of names that the tokens of a text are read as, or where they break rule 3 first. The text has `end`
+/// bytes.
+pub fn read_tokens(
+    alloc: Global,
+    bytes: &[u8],
+    tokens: &[Token],
+    end: u32,
+) -> Result<RawNetlist, VlogFail>
     ensures ok { IfOk result (λ raw. IsReadAs bytes.now tokens.now raw) }
     ensures err { IfErr result (λ e. StopsReading end tokens.now e) }
 {
@@ -103,15 +92,4 @@ fn read(alloc: Global, bytes: &[u8], tokens: &[Token], end: u32) -> Result<RawNe
     } else {
         Err(refused(3, Span { start: end, end }))
     }
-}
-
-/// The netlist of names that the text is, or the first broken rule of 1 to 3.
-pub fn parse_netlist(alloc: Global, bytes: &[u8]) -> Result<RawNetlist, ParseFail>
-    ensures { Parses bytes.now result }
-{
-    if bytes.len() > MAX_BYTES {
-        return Err(too_long());
-    }
-    let tokens = tokens_of(alloc, bytes)?;
-    read(alloc, bytes, &tokens, bytes.len() as u32)
 }

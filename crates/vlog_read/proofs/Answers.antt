@@ -9,10 +9,11 @@ use Rattle.vlog_text.specs.Reading.{IsRead, IsRefusedVerilog, ElaboratesTo}
 use Rattle.vlog_text.specs.Refusing.{first_broken}
 use Rattle.vlog_text.specs.Standing.{net_of}
 use Rattle.vlog_text.specs.Trees.{raw_of}
-use Rattle.vlog_parse.specs.Parsed.{ByLength, ByToken, ByGrammar, IsParsed, IsUnreadable}
-use Rattle.vlog_read.specs.inner.Assembled.{Assembles}
-use Rattle.vlog_read.specs.declared.fail.VlogFail.{VlogFail}
-use Rattle.vlog_read.specs.declared.fail.VlogFail.TheVariants as fail
+use Rattle.vlog_parse.specs.Parsed.{ByLength, ByToken, ByGrammar, IsUnreadable}
+use Rattle.vlog_read.specs.Parsed.{IsParsed, Parses}
+use Rattle.vlog_elaborate.specs.Elaborated.{Elaborates}
+use Rattle.vlog_text.specs.declared.fail.VlogFail.{VlogFail}
+use Rattle.vlog_text.specs.declared.fail.VlogFail.TheVariants as fail
 use Rattle.vlog_read.specs.Read.{Reads}
 
 -- one way of parsing
@@ -36,10 +37,14 @@ refusals_of bytes _ (reading.ByToken short at is) = Early (ByToken short at is)
 refusals_of bytes _ (reading.ByGrammar short found is at leaves) = Early (ByGrammar short found is at leaves)
 refusals_of bytes _ (reading.ByNames p read r broken) = Late p read broken
 
-pub early : (bytes : List ℕ) (r : Refusal) → IsUnreadable bytes r → IsRefusedVerilog bytes r
+early : (bytes : List ℕ) (r : Refusal) → IsUnreadable bytes r → IsRefusedVerilog bytes r
 early bytes _ (ByLength long) = reading.ByLength long
 early bytes _ (ByToken short at is) = reading.ByToken short at is
 early bytes _ (ByGrammar short found is at leaves) = reading.ByGrammar short found is at leaves
+
+pub unparsed : (bytes : List ℕ) (e : VlogFail) → Parses bytes (Err e) → Reads bytes (Err e)
+unparsed bytes (fail.Refused r) stops = early bytes r stops
+unparsed bytes fail.Memory stops = tt
 
 same_some : (r s : Refusal) → Some r ≡ Some s → r ≡ s
 same_some r s e = cc
@@ -75,7 +80,7 @@ apart bytes a r once s b = never_both bytes a r once s (refusals_of bytes r b)
 -- ---- what was parsed is put together
 
 pub assembled : (bytes : List ℕ) (raw : RawNetlist) (answer : Result Circuit VlogFail) → IsParsed bytes raw
-    → Assembles raw answer → Reads bytes answer
+    → Elaborates raw answer → Reads bytes answer
 assembled bytes raw (Ok net) parsed is = record {
   phrase = parsed.phrase;
   is_read = parsed.is_read;

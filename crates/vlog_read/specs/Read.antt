@@ -2,8 +2,8 @@
 use Rattle.std.specs.Prelude.{ℕ, List, Result, Ok, Err}
 use Rattle.net_core.specs.Circuits.{Circuit}
 use Rattle.vlog_text.specs.Reading.{ElaboratesTo, IsRefusedVerilog}
-use Rattle.vlog_read.specs.declared.fail.VlogFail.{VlogFail}
-use Rattle.vlog_read.specs.declared.fail.VlogFail.TheVariants.{Refused, Memory}
+use Rattle.vlog_text.specs.declared.fail.VlogFail.{VlogFail}
+use Rattle.vlog_text.specs.declared.fail.VlogFail.TheVariants.{Refused, Memory}
 
 -- the netlist that the text stands for, or its first broken rule and the place, unless memory ran out
 abbrev pub Reads : List ℕ → Result Circuit VlogFail → Type 0

@@ -4,6 +4,7 @@ ghost use Rattle.pbs_base.specs.declared.refusal.Refusal.{Refusal};
 ghost use Rattle.net_core.specs.Circuits.{Circuit, IsCircuit};
 ghost use Rattle.vlog_text.specs.Reading.{IsRefusedVerilog, ElaboratesTo};
 
+use vlog_elaborate::laws::unbroken_is_circuit;
 use vlog_parse::laws::{one_parse, read_is_raw};
 
 /// A text stands for one netlist, or is refused in one way, and not both.
@@ -20,4 +21,5 @@ pub fn stands_for_circuit()
     ensures { (bytes : List ℕ) (net : Circuit) → ElaboratesTo bytes net → IsCircuit net }
 {
     read_is_raw();
+    unbroken_is_circuit();
 }

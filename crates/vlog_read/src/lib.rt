@@ -2,19 +2,10 @@
 //! 8 that it breaks.
 #![tactic(auto)]
 
-mod assemble;
-mod check;
-mod fail;
 pub mod laws;
-mod order;
-mod places;
-mod ports;
+mod parse;
 mod read;
-mod registers;
-mod reorder;
-mod taken;
-mod waiting;
 
-pub use fail::VlogFail;
-pub use laws::one_answer;
+pub use parse::parse_netlist;
 pub use read::read_netlist;
+pub use vlog_text::VlogFail;

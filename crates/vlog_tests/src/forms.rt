@@ -2,7 +2,7 @@
 use net_core::GateKind;
 use std::alloc::Global;
 use std::test::Fail;
-use vlog_parse::parse_netlist;
+use vlog_read::parse_netlist;
 use vlog_text::{DeclKind, RawGate, RawName, RawNetlist, RawPin, Target};
 
 const TEXT: &[u8] = b"// each form

@@ -12,7 +12,7 @@ pub struct RawName {
 pub type RawNames = Listed<RawName>;
 
 /// What a name is declared as.
-#[derive(Clone, Copy, Debug, PartialEq, Eq)]
+#[derive(Clone, Copy)]
 pub enum DeclKind {
     Input,
     Output,

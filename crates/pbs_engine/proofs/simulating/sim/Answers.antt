@@ -1,6 +1,6 @@
 use Rattle.std.proofs.Common.{Err, refl}
 use Rattle.vlog_read.specs.Read.{Reads}
-use Rattle.vlog_read.specs.declared.fail.VlogFail.TheVariants as reads
+use Rattle.vlog_text.specs.declared.fail.VlogFail.TheVariants as reads
 use Rattle.net_trace.proofs.EndingLemmas.{took_few}
 use Rattle.pbs_engine.specs.Outcomes.{OfBadNetlist, netlist_task}
 use Rattle.pbs_engine.proofs.EndLemmas.{netlist_ends, no_memory, refused_at_once}

@@ -1,0 +1,8 @@
+//! What main covers, by tables of its nodes over a whole run.
+#![tactic(auto)]
+
+mod grid;
+mod step;
+mod tables;
+
+pub use tables::covers;

@@ -1,6 +1,0 @@
-use Rattle.std.proofs.Common.{◌≡◌, ◌<◌, ℕ, false}
-use Rattle.pbs_derive.specs.inner.Tables.{trips_at}
-use Rattle.pbs_derive.proofs.grid.aborted.Given as goal
-
-abbrev pub invariant-loop-m : goal.invariant-loop-m
-invariant-loop-m l = (p : ℕ) → l.i < p → p < l.m → trips_at l.n l.trap l.alive l.i p ≡ false

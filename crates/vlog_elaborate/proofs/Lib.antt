@@ -1,0 +1,12 @@
+mod Earliest
+mod TextGates
+mod NameLists
+mod Unbroken
+mod Wired
+mod Counts
+mod Circuit
+mod Picking
+mod Different
+mod Capping
+mod Placed
+mod Parts

@@ -1,5 +1,0 @@
-use Rattle.vlog_read.specs.inner.Queues.{marked, SettledBetween}
-use Rattle.vlog_read.proofs.order.first_unsettled.Given as goal
-
-abbrev pub invariant-loop-i : goal.invariant-loop-i
-invariant-loop-i l = SettledBetween (marked l.taken) l.pins l.start l.i

@@ -1,5 +1,0 @@
-use Rattle.vlog_read.proofs.Ordering.{Ordered}
-use Rattle.vlog_read.proofs.order.order.Given as goal
-
-abbrev pub invariant-loop : goal.invariant-loop
-invariant-loop l = Ordered l.gates l.taken.items l.ready l.waiting l.order.items l.counter

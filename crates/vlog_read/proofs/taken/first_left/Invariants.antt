@@ -1,6 +1,0 @@
-use Rattle.std.proofs.Common.{◌≡◌, ℕ, ◌<◌, true}
-use Rattle.vlog_read.specs.inner.Queues.{marked}
-use Rattle.vlog_read.proofs.taken.first_left.Given as goal
-
-abbrev pub invariant-loop-n : goal.invariant-loop-n
-invariant-loop-n l = (k : ℕ) → k < l.n → marked l.taken k ≡ true

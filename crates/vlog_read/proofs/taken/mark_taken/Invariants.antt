@@ -1,5 +1,0 @@
-use Rattle.vlog_read.proofs.Marking.{Marked}
-use Rattle.vlog_read.proofs.taken.mark_taken.Given as goal
-
-abbrev pub invariant-loop-gate : goal.invariant-loop-gate
-invariant-loop-gate l = Marked l.count l.order l.gate-index l.taken.items
