@@ -1,8 +1,8 @@
 -- A netlist that has the composed circuit follows the derivations.
-use Rattle.std.proofs.Common.{◌≡◌, ℕ, ◌<◌, ◌≤◌, Bool, true, List, length, ap, ◌∙◌, arith}
+use Rattle.std.proofs.Common.{◌≡◌, ℕ, ◌<◌, ◌≤◌, Bool, List, length, ap, ◌∙◌, arith}
 use Rattle.pbs_base.specs.declared.entry.Entry.{Entry}
 use Rattle.pbs_base.specs.Entries.{since}
-use Rattle.pbs_ast.specs.Trees.{Tree, is_place, is_action, has_no_scope}
+use Rattle.pbs_ast.specs.Trees.{Tree, is_place, is_action}
 use Rattle.pbs_ast.specs.Sound.{IsSound, place_count}
 use Rattle.pbs_derive.specs.Derivations.{stands, fires, NoOverlapBelow}
 use Rattle.pbs_machine.specs.Rows.{main_starts}
@@ -13,7 +13,7 @@ use Rattle.net_core.specs.Rows.{Row, IsRow, value}
 use Rattle.net_core.specs.Circuits.{Circuit}
 use Rattle.net_core.specs.Building.{Keeps}
 use Rattle.net_core.specs.Runs.{IsRun, next_of}
-use Rattle.frag_compose.specs.Composes.{Composes, Follows, FollowsAlways, FollowsRow}
+use Rattle.frag_compose.specs.Composes.{Composes, Follows, FollowsRow}
 
 -- what is known of the controller's rows
 abbrev RegistersStand : Type 0
@@ -70,9 +70,3 @@ module _ (stand : RegistersStand) (fire : FireBitsFire) (old new : Circuit) (mai
 
   pub follows : Follows net wires main m
   follows = record { at_row = follows_row }
-
-  pub follows_always : ((v : List ℕ) (k : ℕ) → has_no_scope main ≡ true → NoOverlapBelow main v k)
-      → has_no_scope main ≡ true → FollowsAlways net wires main m
-  follows_always clear none = record {
-    at_row = λ v rows run k le. follows_row v rows run k le (clear (since v k) (length (since v k)) none);
-  }

@@ -49,11 +49,6 @@ pub record Follows (net : Circuit) (fires : List Wire) (main : Tree) (m : ℕ) :
   pub at_row : (v : List Entry) (rows : ℕ → Row) → IsRun net v rows → (k : ℕ) → k ≤ length v
       → NoOverlapBelow main (since v k) (length (since v k)) → FollowsRow net fires main m v rows k
 
--- in every run from reset
-pub record FollowsAlways (net : Circuit) (fires : List Wire) (main : Tree) (m : ℕ) : Type 0 where
-  pub at_row : (v : List Entry) (rows : ℕ → Row) → IsRun net v rows → (k : ℕ) → k ≤ length v
-      → FollowsRow net fires main m v rows k
-
 -- each place stands where the register of its number is 1
 abbrev pub own_code : ℕ → Code
 own_code p = Bits (record { reg = p; value = true } ∷ [])

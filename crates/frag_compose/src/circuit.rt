@@ -1,12 +1,12 @@
 // From the tree of main to its circuit.
-ghost use Rattle.std.specs.Prelude.{◌≡◌, ◌+◌, ◌*◌, ◌≤◌, ◌<◌, ◌^◌, [], ◌++◌, true, false, length, replicate, take, drop};
+ghost use Rattle.std.specs.Prelude.{◌≡◌, ◌+◌, ◌*◌, ◌≤◌, ◌<◌, ◌^◌, [], ◌++◌, false, length, replicate, take, drop};
 ghost use Rattle.std.specs.Prelude.{IfOk, OnOk, IsTrue};
-ghost use Rattle.pbs_ast.specs.Trees.{has_no_scope, tree_of};
+ghost use Rattle.pbs_ast.specs.Trees.{tree_of};
 ghost use Rattle.pbs_ast.specs.Sound.{actions_below, inputs_below, node_count, place_count, tree_input_leaves};
 ghost use Rattle.net_core.specs.Circuits.{Circuit};
 ghost use Rattle.net_core.specs.Building.{Extends, HasAll, Keeps};
 ghost use Rattle.frag_compose.specs.inner.Fits.{TreeFits};
-ghost use Rattle.frag_compose.specs.Composes.{Composes, Follows, FollowsAlways, own_code, own_codes};
+ghost use Rattle.frag_compose.specs.Composes.{Composes, Follows, own_code, own_codes};
 ghost use Rattle.frag_compose.specs.inner.Gains.{ReachesAll, with_registers};
 
 use crate::descend::descend;
@@ -34,9 +34,6 @@ pub fn compose(b: &mut Builder, main: &Main, actions: u8) -> Result<Composed, Me
     ensures map { IfOk result (λ composed. composed.map ≡ own_codes (place_count (tree_of main.now.tree))) }
     ensures runs { IfOk result (λ composed. (net : Circuit) → Keeps b.new net
         → Follows net composed.fires (tree_of main.now.tree) actions) }
-    ensures scopeless { IfOk result (λ composed. (net : Circuit) → Keeps b.new net
-        → has_no_scope (tree_of main.now.tree) ≡ true
-        → FollowsAlways net composed.fires (tree_of main.now.tree) actions) }
 {
     controller_is_right();
     let alloc = b.allocator();

@@ -20,3 +20,4 @@ pub mod Codes
 pub mod Tables
 pub mod Sorted
 pub mod FewTerms
+pub mod Scopeless

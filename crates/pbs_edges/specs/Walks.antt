@@ -38,3 +38,7 @@ Together main p q = Reaches main p q ⊎ Reaches main q p
 abbrev pub IsRefused : Tree → ℕ → Type 0
 IsRefused main s = (d e : ScopedEdge) × (ds es : List ScopedEdge) × DoubleWalk main (d ∷ ds) (e ∷ es)
     × ((LiesInBody d s × Enters e s) ⊎ (Enters d s × LiesInBody e s))
+
+-- no scope is refused
+abbrev pub BreaksNoScope : Tree → Type 0
+BreaksNoScope main = (s : ℕ) → IsRefused main s → ⊥

@@ -1,22 +1,27 @@
 //! The laws of edges and of the overlap rule. Each is a function that does nothing, and its clauses are the law.
 
 ghost use Rattle.std.specs.Prelude.{◌≡◌, ◌<◌, ◌↔◌, ℕ, List, true, Contains, IsTrue, slice_get, Some};
-ghost use Rattle.pbs_ast.specs.Trees.{Tree, fits};
+ghost use Rattle.pbs_ast.specs.Trees.{Tree, fits, has_no_scope};
 ghost use Rattle.pbs_ast.specs.Sound.{IsCounted, place_count, scopes_from};
 ghost use Rattle.pbs_derive.specs.Derivations.{NoOverlapBelow, stands};
 ghost use Rattle.pbs_edges.specs.declared.edge.Edge.{Edge};
 ghost use Rattle.pbs_edges.specs.Effective.{all_true, effective_term};
 ghost use Rattle.pbs_edges.specs.Found.{IsFollowEdge};
 ghost use Rattle.pbs_edges.specs.Listed.{follow_edges};
-ghost use Rattle.pbs_edges.specs.Walks.{IsRefused, Together};
+ghost use Rattle.pbs_edges.specs.Walks.{BreaksNoScope, Together};
 
 /// Where no scope is refused, no scope is begun while it is live, and places that stand at one position are together.
 pub fn overlap_rule_is_sound()
     ensures no_overlap { (main : Tree) (v : List ℕ) (k : ℕ) → IsTrue (scopes_from main 0)
-        → ((s : ℕ) → IsRefused main s → ⊥) → NoOverlapBelow main v k }
+        → BreaksNoScope main → NoOverlapBelow main v k }
     ensures together { (main : Tree) (v : List ℕ) (k p q : ℕ) → IsTrue (scopes_from main 0)
-        → ((s : ℕ) → IsRefused main s → ⊥) → stands main v 0 k p ≡ true → stands main v 0 k q ≡ true
+        → BreaksNoScope main → stands main v 0 k p ≡ true → stands main v 0 k q ≡ true
         → Together main p q }
+{}
+
+/// A tree without scopes breaks no overlap rule.
+pub fn scopeless_is_clear()
+    ensures { (main : Tree) → has_no_scope main ≡ true → BreaksNoScope main }
 {}
 
 /// The list of the follow edges has each of them once.

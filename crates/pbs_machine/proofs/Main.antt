@@ -1,7 +1,7 @@
 -- The machine of main from reset.
 use Rattle.std.proofs.Common.{◌≡◌, ℕ, zero, suc, ◌<◌, Bool, true, List, refl, sym, ◌∙◌, ap, arith}
 use Rattle.std.proofs.lemmas.Bool.{false≢true}
-use Rattle.pbs_ast.specs.Trees.{Tree, has_no_scope}
+use Rattle.pbs_ast.specs.Trees.{Tree}
 use Rattle.pbs_derive.proofs.Shapes.{WellFormed, PlacesOnce}
 use Rattle.pbs_derive.specs.Derivations.{live, NoOverlapBelow}
 use Rattle.pbs_derive.proofs.Reached.{reaches}
@@ -9,7 +9,6 @@ use Rattle.pbs_machine.specs.Nodes.{ClearBelow}
 use Rattle.pbs_machine.specs.Rows.{started}
 use Rattle.pbs_machine.proofs.Driven.{driven, vector_in_row, main_start, main_outer, main_keep, registers_before}
 use Rattle.pbs_derive.proofs.Positions.{same_test}
-use Rattle.pbs_machine.proofs.Scopes.{scopeless_live}
 use Rattle.pbs_machine.proofs.Nodes.{meets}
 
 -- main is begun in row 0 alone
@@ -48,10 +47,6 @@ main_reaches main mark v anything any k good once none =
       held = λ q low high. main_held q low;
       reached = h;
     }))
-
--- a tree without scopes meets the premise
-pub scopeless_no_overlap : (main : Tree) (v : List ℕ) (k : ℕ) → has_no_scope main ≡ true → NoOverlapBelow main v k
-scopeless_no_overlap main v k g t le s j lt a b = scopeless_live main v 0 t s j g a
 
 pub no_overlap_less : (main : Tree) (v : List ℕ) (k : ℕ) → NoOverlapBelow main v (suc k) → NoOverlapBelow main v k
 no_overlap_less main v k none t lt = none t (omega arith)

@@ -4,7 +4,7 @@
 ghost use Rattle.std.specs.Prelude.{Bool, IsTrue, List, false, length, slice_index, suc, true, ℕ, ◌≡◌, ◌≤◌};
 ghost use Rattle.pbs_base.specs.declared.entry.Entry.{Entry};
 ghost use Rattle.pbs_base.specs.Entries.{since};
-ghost use Rattle.pbs_ast.specs.Trees.{Tree, has_no_scope, is_action, is_place};
+ghost use Rattle.pbs_ast.specs.Trees.{Tree, is_action, is_place};
 ghost use Rattle.pbs_ast.specs.Sound.{IsSound, places_from, scopes_right};
 ghost use Rattle.pbs_derive.specs.Derivations.{NoOverlap, NoOverlapBelow, fires, stands};
 ghost use Rattle.pbs_machine.specs.Nodes.{IsNodeRun, IsRight};
@@ -13,8 +13,7 @@ ghost use Rattle.pbs_machine.specs.Runs.{IsControllerRun};
 
 /// In each run of vectors and resets, after each row, the controller's registers are the places that stand over the
 /// vectors since the last reset, and its fire bits are the actions that fire, where no scope was begun again while it
-/// was live at an earlier position of that stretch. So it is where no scope overlaps at any position of the stretch,
-/// and in a tree without scopes none ever does.
+/// was live at an earlier position of that stretch. So it is where no scope overlaps at any position of the stretch.
 pub fn controller_is_right()
     ensures registers { (main : Tree) (v : List Entry) (old : ℕ → ℕ → Bool) (reset : ℕ → Bool) (input : ℕ → ℕ)
         → IsSound main → IsControllerRun main v old reset input → (k : ℕ) → k ≤ length v
@@ -25,7 +24,6 @@ pub fn controller_is_right()
         → NoOverlapBelow main (since v k) (length (since v k)) → (a : ℕ)
         → main_starts main (is_action a) (old k) (input k) (reset k) ≡ fires main (since v k) 0 (length (since v k)) a }
     ensures whole { (main : Tree) (v : List ℕ) → NoOverlap main v → NoOverlapBelow main v (length v) }
-    ensures scopeless { (main : Tree) (v : List ℕ) (k : ℕ) → has_no_scope main ≡ true → NoOverlapBelow main v k }
 {}
 
 /// The same of one row: a reset row gives the places and actions of position 0 whatever the registers are, and a row

@@ -13,3 +13,4 @@ pub mod JointLemmas
 pub mod Plans
 pub mod Verdict
 pub mod Spans
+pub mod RuleLemmas

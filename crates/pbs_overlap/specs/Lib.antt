@@ -1,3 +1,4 @@
 pub mod Ranges
 pub mod inner
 pub mod Told
+pub mod Rules

@@ -12,10 +12,6 @@ use Rattle.pbs_overlap.specs.Ranges.{scope_span}
 abbrev pub says : Pairs → ℕ → ℕ → Bool
 says pairs p q = slice_index_or pairs.table.items (p * pairs.places + q) false
 
--- no scope is refused
-abbrev pub BreaksNoScope : Tree → Type 0
-BreaksNoScope main = (s : ℕ) → IsRefused main s → ⊥
-
 -- the table says which places of the tree are together
 pub record TellsTogether (main : Tree) (pairs : Pairs) : Type 0 where
   pub places : pairs.places ≡ place_count main

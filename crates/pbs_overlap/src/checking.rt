@@ -2,9 +2,10 @@
 ghost use Rattle.std.specs.Prelude.{◌≡◌, IfErr, IfOk};
 ghost use Rattle.pbs_ast.specs.Trees.{tree_of};
 ghost use Rattle.pbs_edges.specs.Found.{AreEdges};
+ghost use Rattle.pbs_edges.specs.Walks.{BreaksNoScope};
 ghost use Rattle.pbs_overlap.specs.Ranges.{ranges};
 ghost use Rattle.pbs_overlap.specs.inner.Planning.{IsPlan};
-ghost use Rattle.pbs_overlap.specs.Told.{BreaksNoScope, IsOverlapCause, TellsTogether};
+ghost use Rattle.pbs_overlap.specs.Told.{IsOverlapCause, TellsTogether};
 
 use crate::fail::OverlapFail;
 use crate::pairs::Pairs;

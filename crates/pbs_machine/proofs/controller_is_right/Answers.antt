@@ -1,6 +1,5 @@
 use Rattle.std.proofs.Common.{arith}
 use Rattle.pbs_derive.proofs.Shapes.{well_formed, places_once, place_range}
-use Rattle.pbs_machine.proofs.Main.{scopeless_no_overlap}
 use Rattle.pbs_machine.proofs.Resets.{rows_stand, rows_fire}
 use Rattle.pbs_machine.proofs.controller_is_right.Goals as goal
 
@@ -16,6 +15,3 @@ returns-clause-fire_bits c = λ main v old reset input sound run.
 
 pub returns-clause-whole : goal.returns-clause-whole
 returns-clause-whole c = λ main v none t lt. none t (omega arith)
-
-pub returns-clause-scopeless : goal.returns-clause-scopeless
-returns-clause-scopeless c = scopeless_no_overlap

@@ -2,7 +2,7 @@ use Rattle.std.proofs.Common.{length, ◌+◌, ◌≤◌, arith}
 use Rattle.pbs_ast.specs.Trees.{tree_of}
 use Rattle.pbs_ast.specs.Sound.{place_count}
 use Rattle.frag_compose.proofs.Leaves.{tree_fits}
-use Rattle.frag_compose.proofs.Following.{follows, follows_always}
+use Rattle.frag_compose.proofs.Following.{follows}
 use Rattle.frag_compose.proofs.circuit.compose.Goals as goal
 
 pub add_circuit-requires-clause-fits : goal.add_circuit-requires-clause-fits
@@ -18,10 +18,3 @@ returns-clause-runs c = λ net all.
     follows c.controller_is_right.ensures.registers c.controller_is_right.ensures.fire_bits
     c.args.b.now c.add_circuit.new.b (tree_of c.args.main.now.tree) c.args.actions c.in_ok-fires.fires
     c.args.main.now.sound c.in_ok-fires.ensures net all
-
-pub returns-clause-scopeless : goal.returns-clause-scopeless
-returns-clause-scopeless c = λ net all.
-    let main = tree_of c.args.main.now.tree in
-    follows_always c.controller_is_right.ensures.registers c.controller_is_right.ensures.fire_bits
-    c.args.b.now c.add_circuit.new.b main c.args.actions c.in_ok-fires.fires
-    c.args.main.now.sound c.in_ok-fires.ensures net all (c.controller_is_right.ensures.scopeless main)
