@@ -144,10 +144,27 @@ def fired_rows(spec, root, entries):
     return rows
 
 
+def level_rows(spec, entries, fired_in):
+    """For each row the levels that are 1 after it: the fold over the rows since the last reset and, in each, over the
+    actions that fire, in declared order, from the initial value."""
+    rows = []
+    for count in range(len(entries) + 1):
+        first, ones = count - len(since_reset(entries, count)), []
+        for level in spec.levels:
+            value = level.start
+            for fired in fired_in[first:count + 1]:
+                for action in (spec.actions[n] for n in fired):
+                    value = level.sets.get(action, value)
+            ones += [level.name] if value else []
+        rows.append(ones)
+    return rows
+
+
 def report_of(spec, root, entries):
-    lines = []
-    for count, fired in enumerate(fired_rows(spec, root, entries)):
-        lines.append(f"{count} " + (" ".join(f"a_{spec.actions[n]}" for n in fired) or "-"))
+    fired_in, lines = fired_rows(spec, root, entries), []
+    for count, ones in enumerate(level_rows(spec, entries, fired_in)):
+        shown = [f"a_{spec.actions[n]}" for n in fired_in[count]] + [f"o_{name}" for name in ones]
+        lines.append(f"{count} " + (" ".join(shown) or "-"))
     return lines + [f"end {len(entries)}"]
 
 

@@ -27,6 +27,13 @@ class Spec:
         self.inputs, self.buses, self.actions, self.levels, self.prods, self.main = [], {}, [], [], {}, None
 
 
+class Level:
+    """A level: its name, what it starts with, and what actions set it to."""
+
+    def __init__(self, name, start, sets):
+        self.name, self.start, self.sets = name, start, sets
+
+
 class Node:
     """A node of the expanded tree. Its subtree has the numbers from its own up to and with `last`."""
 
@@ -99,10 +106,16 @@ class Reader:
         self.take(";")
 
     def level(self, spec):
-        self.take()
-        spec.levels.append((self.start, self.end))
+        name = self.take()
+        self.take("=")
+        level = Level(name, self.take() == "1", {})
+        self.take("{")
         while not self.took("}"):
-            self.take()
+            action = self.take()
+            self.take(":")
+            level.sets[action] = self.take() == "1"
+            self.take(";")
+        spec.levels.append(level)
 
     def prod(self, spec):
         name = self.take()

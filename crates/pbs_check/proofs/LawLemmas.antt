@@ -10,9 +10,10 @@ use Rattle.pbs_base.specs.declared.refusal.Refusal.{Refusal}
 use Rattle.pbs_base.specs.declared.refusal.Subject.{Subject}
 use Rattle.pbs_base.specs.Words.{AreDifferent}
 use Rattle.pbs_ast.specs.declared.syntax.Decl.{Decl}
+use Rattle.pbs_ast.specs.declared.syntax.Level.{Level}
 use Rattle.pbs_ast.specs.declared.syntax.Prod.{Prod}
 use Rattle.pbs_ast.specs.declared.syntax.Spec.{Spec}
-use Rattle.pbs_names.specs.Naming.{inputs_of, input_names, action_names, prod_names, bit_names}
+use Rattle.pbs_names.specs.Naming.{inputs_of, input_names, action_names, level_names, prod_names, bit_names}
 use Rattle.pbs_check.specs.declared.named.Named.{Named}
 use Rattle.pbs_check.specs.Checked.{IsBroken, By5, By11, IsFirst, IsUnbroken}
 use Rattle.pbs_check.specs.Declaring.{named, declared_by, declared_inputs, declared_actions, declared_levels}
@@ -198,6 +199,20 @@ different_actions spec kept =
     different (action_names spec.actions) actions spec (λ s r. kept.unbroken 5 s (By5 r))
     (subst P (nil_append actions) (parts_append (none_part (declared_inputs spec.inputs))
     (parts_append (whole_part actions) (none_part rest)))) (action_words spec.actions)
+
+level_words : (ls : List Level) → map (λ (x : Named). x.name) (declared_levels ls) ≡ level_names ls
+level_words [] = refl
+level_words (l ∷ ls) = ap (λ ws. l.name ∷ ws) (level_words ls)
+
+pub different_levels : (spec : Spec) → IsUnbroken spec → AreDifferent (level_names spec.levels)
+different_levels spec kept =
+    let levels = declared_levels spec.levels in
+    let prods = declared_prods spec.prods in
+    let P : List Named → Type 0 = λ xs. IsPart xs (declared_names spec) in
+    different (level_names spec.levels) levels spec (λ s r. kept.unbroken 5 s (By5 r))
+    (subst P (nil_append levels) (parts_append (none_part (declared_inputs spec.inputs))
+    (parts_append (none_part (declared_actions spec.actions)) (parts_append (whole_part levels) (none_part prods)))))
+    (level_words spec.levels)
 
 prod_words : (ps : List Prod) → map (λ (x : Named). x.name) (declared_prods ps) ≡ prod_names ps
 prod_words [] = refl

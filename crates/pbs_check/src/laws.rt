@@ -5,7 +5,7 @@ ghost use Rattle.pbs_base.specs.declared.refusal.Span.{Span};
 ghost use Rattle.pbs_base.specs.Words.{AreDifferent};
 ghost use Rattle.pbs_ast.specs.Bare.{bare};
 ghost use Rattle.pbs_ast.specs.declared.syntax.Spec.{Spec};
-ghost use Rattle.pbs_names.specs.Naming.{input_names, action_names};
+ghost use Rattle.pbs_names.specs.Naming.{input_names, action_names, level_names};
 ghost use Rattle.pbs_check.specs.Checked.{Checks, IsBroken, IsFirst, IsUnbroken};
 ghost use Rattle.pbs_check.specs.declared.fail.Check.{Check};
 
@@ -16,10 +16,11 @@ pub fn within_limits()
     ensures levels { (spec : Spec) → IsUnbroken spec → length spec.levels ≤ 64 }
 {}
 
-/// No input is declared twice, the bits of buses among them, and no action.
+/// No input is declared twice, the bits of buses among them, no action and no level.
 pub fn declared_once()
     ensures inputs { (spec : Spec) → IsUnbroken spec → AreDifferent (input_names spec.inputs) }
     ensures actions { (spec : Spec) → IsUnbroken spec → AreDifferent (action_names spec.actions) }
+    ensures levels { (spec : Spec) → IsUnbroken spec → AreDifferent (level_names spec.levels) }
 {}
 
 /// A specification has at most one first refusal, and none where it breaks no rule.

@@ -16,7 +16,7 @@ use Rattle.net_trace.specs.Endings.{trace_text, HasTrace, RunEnds, lines_of}
 use Rattle.net_trace.proofs.EndingLemmas.{IsPart, ends_more, few_more, took_few, took_little, wrote_nothing, nothing_cut}
 use Rattle.net_trace.specs.declared.fail.RunFail.{RunFail}
 use Rattle.net_trace.specs.declared.fail.RunFail.TheVariants as fails
-use Rattle.pbs_engine.specs.Accepted.{OnReading, Broken}
+use Rattle.pbs_engine.specs.Accepted.{OnReading}
 use Rattle.pbs_engine.specs.Outcomes.{OfRefused, OfBadNetlist}
 use Rattle.pbs_cli.specs.Words.{Job, Check, Compile, Sim, Trace, Run}
 use Rattle.pbs_cli.specs.Answers.{OnBroken, OnNoVerilog, HasNeeded, task_of, most_of}
@@ -26,9 +26,9 @@ use Rattle.pbs_cli.specs.inner.Parts.{ReadsFirst, FirstGives, Does, Attempts, su
 long_gives : (job : Job) (text trace : List ℕ) → most_of job < length text
     → (task_of job).gives text trace (refused (too_long (subject_of job) (most_of job)))
 long_gives Check text trace is = OnBroken (OnReading (ByLength is))
-long_gives Compile text trace is = OnNoVerilog (Broken (OnReading (ByLength is)))
+long_gives Compile text trace is = OnNoVerilog (OnReading (ByLength is))
 long_gives (Sim name) text trace is = OfBadNetlist (netlists.ByLength is)
-long_gives (Trace name) text trace is = OfRefused (Broken (OnReading (ByLength is)))
+long_gives (Trace name) text trace is = OfRefused (OnReading (ByLength is))
 
 -- ---- a first file that wasn't read
 

@@ -7,7 +7,7 @@ use Rattle.pbs_io.specs.Refusal.{refusal_line}
 use Rattle.pbs_ast.specs.declared.syntax.Spec.{Spec}
 use Rattle.net_trace.specs.Outcomes.{Outcome, refused}
 use Rattle.net_trace.specs.Endings.{Task, trace_text, HasTrace, TraceEnded}
-use Rattle.pbs_engine.specs.Accepted.{Breaks, IsAccepted, IsNotCompiled}
+use Rattle.pbs_engine.specs.Accepted.{Breaks, IsAccepted}
 use Rattle.pbs_engine.specs.Right.{IsVerilogOf}
 use Rattle.pbs_engine.specs.Outcomes.{text_task, netlist_task}
 use Rattle.pbs_cli.specs.Words.{Job, Check, Compile, Sim, Trace, Command, Run, Usage}
@@ -24,7 +24,7 @@ pub data Checks (text : List ℕ) : Outcome → Type 0 where
 pub data Compiled (text : List ℕ) : Outcome → Type 0 where
   OnVerilog : {verilog : List ℕ} → IsVerilogOf text verilog
       → Compiled text (record { lines = verilog; refusal = None })
-  OnNoVerilog : {r : Refusal} → IsNotCompiled text r → Compiled text (refused r)
+  OnNoVerilog : {r : Refusal} → Breaks text r → Compiled text (refused r)
 
 -- a task that reads no trace
 abbrev pub text_alone : (List ℕ → Outcome → Type 0) → Task (List ℕ)

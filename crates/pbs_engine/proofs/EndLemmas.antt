@@ -8,8 +8,9 @@ use Rattle.pbs_base.specs.declared.refusal.Refusal.{Refusal}
 use Rattle.pbs_io.specs.Outside.{ShelfState, SinkState, NamedFile, has_file}
 use Rattle.pbs_io.proofs.ReadLemmas.{GoesOn-refl}
 use Rattle.pbs_io.proofs.WrittenLemmas.{append_known-nil}
+use Rattle.pbs_ast.specs.declared.syntax.Level.{Level}
 use Rattle.pbs_ast.specs.declared.syntax.Spec.{Spec}
-use Rattle.pbs_names.specs.Naming.{action_names}
+use Rattle.pbs_names.specs.Naming.{action_names, level_names}
 use Rattle.net_core.specs.Rows.{Row}
 use Rattle.net_core.specs.Circuits.{Circuit}
 use Rattle.net_core.specs.Runs.{output_value}
@@ -24,10 +25,15 @@ use Rattle.net_trace.specs.Taken.{HasRows, NetRows}
 use Rattle.net_trace.specs.Endings.{Task, TaskEnds, net_task, trace_text}
 use Rattle.net_trace.proofs.EndingLemmas.{IsPart, ends_more, took_little}
 use Rattle.vlog_text.specs.Reading as netlists
-use Rattle.pbs_controller.specs.Ports.{ports_of}
-use Rattle.pbs_engine.specs.Accepted.{IsCompiled}
-use Rattle.pbs_engine.specs.Right.{Realizes, IsReadBack}
-use Rattle.pbs_engine.specs.Outcomes.{TextGives, OfHeader, OfRows, FiredRows, row_fires, fired_rows, text_task}
+use Rattle.pbs_expand.specs.Expanded.{expanded}
+use Rattle.pbs_controller.specs.LevelPlans.{plan_of_level}
+use Rattle.pbs_controller.specs.Ports.{output_ports}
+use Rattle.pbs_controller.proofs.PortLemmas.{length-outputs}
+use Rattle.pbs_controller.proofs.ShownLemmas.{shows_due}
+use Rattle.pbs_engine.specs.Accepted.{IsAccepted}
+use Rattle.pbs_realize.specs.Realizes.{Realizes, level_plan}
+use Rattle.pbs_engine.specs.Right.{IsReadBack}
+use Rattle.pbs_engine.specs.Outcomes.{TextGives, OfHeader, OfRows, DueRows, is_due, due_rows, text_task}
 use Rattle.pbs_engine.specs.Outcomes.{OfNetlist, netlist_task}
 
 -- ---- the lines
@@ -42,36 +48,41 @@ rows_same names p q k (suc n) same =
     ∙ ap (λ l. row_line names k (q k) ++ l)
     (rows_same names p q (suc k) n (λ j low high. same j (omega arith) (omega arith)))
 
--- the rows that such a netlist shows are those in which the actions fire
-shows_fired : (spec : Spec) (net : Circuit) (rows : ℕ → Row) (entries : List Entry) → Realizes spec net
-    → IsZeroRun net entries rows → shown_rows net rows (length entries) ≡ fired_rows spec entries
-shows_fired spec net rows entries right run =
-    let names = ports_of (codes "a_") (action_names spec.actions) in
+-- the rows that such a netlist shows are those that are due
+shows_due_rows : (spec : Spec) (net : Circuit) (rows : ℕ → Row) (entries : List Entry) → Realizes spec net
+    → IsZeroRun net entries rows → shown_rows net rows (length entries) ≡ due_rows spec entries
+shows_due_rows spec net rows entries right run =
+    let names = output_ports (action_names spec.actions) (level_names spec.levels) in
+    let m = length (action_names spec.actions) in
     ap (λ l. rows_text l (λ k n. output_value net (rows k) n) 0 (suc (length entries))) right.outputs
-    ∙ rows_same names (λ k n. output_value net (rows k) n) (row_fires spec entries) 0 (suc (length entries))
-    (λ j low high a less.
-    (right.shows entries rows run.run j (omega arith)).outputs a
-    (omega (arith, less, length-map (action_names spec.actions) (λ name. codes "a_" ++ name))))
+    ∙ rows_same names (λ k n. output_value net (rows k) n) (is_due spec entries) 0 (suc (length entries))
+    (λ j low high n less.
+    shows_due net (expanded spec) m (level_plan spec) entries rows j (right.shows entries rows run.run j (omega arith))
+    (right.shows_levels entries rows run.run j (omega arith)) n
+    (let count = length-outputs (action_names spec.actions) (level_names spec.levels) in
+    let names_of = length-map spec.levels (λ (l : Level). l.name) in
+    let plans = length-map spec.levels (λ l. plan_of_level (action_names spec.actions) l) in
+    omega (arith, less, count, names_of, plans)))
 
 -- what the netlist gives on a trace, the text gives
 text_gives : (text bytes : List ℕ) (net : Circuit) → IsReadBack text net → (o : Outcome) → NetGives net bytes o
     → TextGives text bytes o
 text_gives text bytes net back o (OnHeader {r} at) =
-    OfHeader back.spec back.run (subst (λ ports. trace ports bytes ≡ NoHeader r) back.realizes.inputs at)
+    OfHeader back.spec back.accepted (subst (λ ports. trace ports bytes ≡ NoHeader r) back.realizes.inputs at)
 text_gives text bytes net back o (OnRows read is rows run) =
     subst (λ l. TextGives text bytes (ended l (length read.entries) read.ending))
-    (sym (shows_fired back.spec net rows read.entries back.realizes run))
-    (OfRows back.spec back.run read (subst (λ ports. trace ports bytes ≡ Traced read) back.realizes.inputs is))
+    (sym (shows_due_rows back.spec net rows read.entries back.realizes run))
+    (OfRows back.spec back.accepted read (subst (λ ports. trace ports bytes ≡ Traced read) back.realizes.inputs is))
 
 -- what is due of the netlist, is due of the text
 text_due : (text : List ℕ) (net : Circuit) → IsReadBack text net → (taken lines : List ℕ) → NetRows net taken lines
-    → FiredRows text taken lines
+    → DueRows text taken lines
 text_due text net back taken lines rows = record {
   spec = back.spec;
-  run = back.run;
+  accepted = back.accepted;
   entries = rows.entries;
   has = subst (λ ports. HasRows ports taken rows.entries) back.realizes.inputs rows.has;
-  lines_are = rows.lines_are ∙ shows_fired back.spec net rows.rows rows.entries back.realizes rows.run;
+  lines_are = rows.lines_are ∙ shows_due_rows back.spec net rows.rows rows.entries back.realizes rows.run;
 }
 
 -- ---- how the calls end
@@ -82,12 +93,12 @@ HasFile name files = has_file files name ≡ true
 
 read_back_part : (text name : List ℕ) (net : Circuit) (told : Option (List NamedFile)) → IsReadBack text net
     → IsPart (net_task name) (text_task name) (λ files. net) (λ files. text) (λ files. ⊤ → HasFile name files)
-    (λ files. (spec : Spec) × IsCompiled text spec → HasFile name files) told
+    (λ files. (spec : Spec) × IsAccepted text spec → HasFile name files) told
 read_back_part text name net told back = record {
   trace = refl;
   gives = λ files is bytes o given. text_gives text bytes net back o given;
   due = λ files is taken lines rows. text_due text net back taken lines rows;
-  has = λ files is has _. has (back.spec, back.run);
+  has = λ files is has _. has (back.spec, back.accepted);
 }
 
 pub net_ends : (text name : List ℕ) (net : Circuit) (a b : ShelfState) (k m : SinkState)
@@ -95,7 +106,7 @@ pub net_ends : (text name : List ℕ) (net : Circuit) (a b : ShelfState) (k m : 
     → TaskEnds (text_task name) text a b k m result
 net_ends text name net a b k m result back ends =
     ends_more (net_task name) (text_task name) (λ files. net) (λ files. text) (λ files. ⊤ → HasFile name files)
-    (λ files. (spec : Spec) × IsCompiled text spec → HasFile name files) a a b k m
+    (λ files. (spec : Spec) × IsAccepted text spec → HasFile name files) a a b k m
     (read_back_part text name net a.files back) (GoesOn-refl a) refl result ends
 
 netlist_part : (text name : List ℕ) (net : Circuit) (told : Option (List NamedFile)) → netlists.ElaboratesTo text net

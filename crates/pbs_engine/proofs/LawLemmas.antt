@@ -2,18 +2,22 @@
 use Rattle.std.proofs.Common.{◌≡◌, ◌∙◌, ℕ, List, Option, Some, None, Result, Ok, Err, sym, ap, subst}
 use Rattle.pbs_base.specs.declared.refusal.Span.{Span}
 use Rattle.pbs_base.specs.declared.refusal.Refusal.{Refusal}
+use Rattle.pbs_ast.specs.Trees.{Tree}
 use Rattle.pbs_ast.specs.declared.syntax.Spec.{Spec}
 use Rattle.pbs_text.specs.Answers.{Answers, StandsFor}
 use Rattle.pbs_check.specs.Checked.{IsFirst, IsUnbroken}
-use Rattle.pbs_expand.specs.Expanded.{refusal}
-use Rattle.pbs_engine.specs.Accepted.{Breaks, OnReading, OnRules, OnExpansion, IsAccepted, IsCompiled, IsNotCompiled, Broken}
-use Rattle.pbs_engine.specs.Accepted.{Unbuilt, not_built, unbuilt}
+use Rattle.pbs_expand.specs.Expanded.{expanded, refusal}
+use Rattle.pbs_overlap.specs.Rules.{IsClear, TreeRefuses}
+use Rattle.pbs_engine.specs.Accepted.{Breaks, OnReading, OnSpec, SpecBreaks, OnRules, OnExpansion, OnTree, IsAccepted}
 
--- the laws of the reader and of the checks
+-- the laws of the reader, of the checks and of the rules of scopes
 pub record OneEach : Type 0 where
   pub answer : (bytes : List ℕ) (a b : Result Spec Refusal) → Answers bytes a → Answers bytes b → a ≡ b
   pub same : (spec : Spec) (r s : Refusal) → IsFirst spec r → IsFirst spec s → r ≡ s
   pub never : (spec : Spec) (r : Refusal) → IsFirst spec r → IsUnbroken spec → ⊥
+  pub tree_same : (main : Tree) (span : Span) (r s : Refusal) → TreeRefuses main span r → TreeRefuses main span s
+      → r ≡ s
+  pub tree_never : (main : Tree) (span : Span) (r : Refusal) → TreeRefuses main span r → IsClear main → ⊥
 
 abbrev ok_of : Spec → Result Spec Refusal → Spec
 ok_of other (Ok spec) = spec
@@ -26,6 +30,9 @@ err_of other (Err r) = r
 abbrev some_of : Refusal → Option Refusal → Refusal
 some_of other (Some r) = r
 some_of other None = other
+
+some_none : (r : Refusal) (o : Option Refusal) → o ≡ Some r → o ≡ None → ⊥
+some_none r o some none = let both : Some r ≡ None = sym some ∙ none in cc
 
 abbrev is_ok : Result Spec Refusal → Type 0
 is_ok (Ok spec) = Unit {0}
@@ -40,50 +47,40 @@ never_both one text a r p q = subst is_ok (one.answer text (Ok a) (Err r) p q) t
 pub one_accepted : OneEach → (text : List ℕ) (a b : Spec) → IsAccepted text a → IsAccepted text b → a ≡ b
 one_accepted one text a b p q = one_spec one text a b p.read q.read
 
+-- ---- a specification
+
+keeps_apart : OneEach → (spec : Spec) (r : Refusal) → SpecBreaks spec r → IsUnbroken spec → refusal spec ≡ None
+    → IsClear (expanded spec) → ⊥
+keeps_apart one spec r (OnRules first) unbroken within clear = one.never spec r first unbroken
+keeps_apart one spec r (OnExpansion none over) unbroken within clear = some_none r (refusal spec) over within
+keeps_apart one spec r (OnTree none kept tree) unbroken within clear =
+    one.tree_never (expanded spec) spec.main.span r tree clear
+
+one_rule : OneEach → (spec : Spec) (r s : Refusal) → SpecBreaks spec r → SpecBreaks spec s → r ≡ s
+one_rule one spec r s (OnRules first) (OnRules other) = one.same spec r s first other
+one_rule one spec r s (OnRules first) (OnExpansion none over) = absurd (one.never spec r first none)
+one_rule one spec r s (OnRules first) (OnTree none kept tree) = absurd (one.never spec r first none)
+one_rule one spec r s (OnExpansion none over) (OnRules first) = absurd (one.never spec s first none)
+one_rule one spec r s (OnExpansion none over) (OnExpansion none_too other) = ap (some_of r) (sym over ∙ other)
+one_rule one spec r s (OnExpansion none over) (OnTree none_too kept tree) =
+    absurd (some_none r (refusal spec) over kept)
+one_rule one spec r s (OnTree none kept tree) (OnRules first) = absurd (one.never spec s first none)
+one_rule one spec r s (OnTree none kept tree) (OnExpansion none_too over) =
+    absurd (some_none s (refusal spec) over kept)
+one_rule one spec r s (OnTree none kept tree) (OnTree none_too kept_too other) =
+    one.tree_same (expanded spec) spec.main.span r s tree other
+
+-- ---- a text
+
 pub accepted_apart : OneEach → (text : List ℕ) (a : Spec) (r : Refusal) → IsAccepted text a → Breaks text r → ⊥
 accepted_apart one text a r p (OnReading q) = never_both one text a r p.read q
-accepted_apart one text a r p (OnRules spec read first) =
-    one.never a r (subst (λ s. IsFirst s r) (one_spec one text spec a read p.read) first) p.unbroken
-accepted_apart one text a r p (OnExpansion spec read none over) =
-    let both : Some r ≡ None = sym over ∙ (ap refusal (one_spec one text spec a read p.read) ∙ p.within) in cc
+accepted_apart one text a r p (OnSpec spec read broken) =
+    keeps_apart one a r (subst (λ x. SpecBreaks x r) (one_spec one text spec a read p.read) broken) p.unbroken p.within
+    p.clear
 
 pub one_broken : OneEach → (text : List ℕ) (r s : Refusal) → Breaks text r → Breaks text s → r ≡ s
 one_broken one text r s (OnReading p) (OnReading q) = ap (err_of r) (one.answer text (Err r) (Err s) p q)
-one_broken one text r s (OnReading p) (OnRules spec read first) = absurd (never_both one text spec r read p)
-one_broken one text r s (OnReading p) (OnExpansion spec read none over) = absurd (never_both one text spec r read p)
-one_broken one text r s (OnRules spec read first) (OnReading q) = absurd (never_both one text spec s read q)
-one_broken one text r s (OnRules spec read first) (OnRules other read_other first_other) =
-    one.same other r s (subst (λ x. IsFirst x r) (one_spec one text spec other read read_other) first) first_other
-one_broken one text r s (OnRules spec read first) (OnExpansion other read_other none over) =
-    absurd (one.never other r (subst (λ x. IsFirst x r) (one_spec one text spec other read read_other) first) none)
-one_broken one text r s (OnExpansion spec read none over) (OnReading q) = absurd (never_both one text spec s read q)
-one_broken one text r s (OnExpansion spec read none over) (OnRules other read_other first) =
-    absurd (one.never spec s (subst (λ x. IsFirst x s) (one_spec one text other spec read_other read) first) none)
-one_broken one text r s (OnExpansion spec read none over) (OnExpansion other read_other none_other over_other) =
-    ap (some_of r) (sym over ∙ (ap refusal (one_spec one text spec other read read_other) ∙ over_other))
-
--- ---- what is run
-
--- the laws of what is accepted
-pub record OneCheck : Type 0 where
-  pub spec : (text : List ℕ) (a b : Spec) → IsAccepted text a → IsAccepted text b → a ≡ b
-  pub refusal : (text : List ℕ) (r s : Refusal) → Breaks text r → Breaks text s → r ≡ s
-  pub apart : (text : List ℕ) (a : Spec) (r : Refusal) → IsAccepted text a → Breaks text r → ⊥
-
-pub run_apart : OneCheck → (text : List ℕ) (a : Spec) (r : Refusal) → IsCompiled text a → IsNotCompiled text r → ⊥
-run_apart one text a r run (Broken broken) = one.apart text a r run.accepted broken
-run_apart one text a r run (Unbuilt spec span accepted some) =
-    let both : Some span ≡ None =
-    sym some ∙ (ap not_built (one.spec text spec a accepted run.accepted) ∙ run.built) in cc
-
-abbrev some_span : Span → Option Span → Span
-some_span other (Some span) = span
-some_span other None = other
-
-pub one_not_run : OneCheck → (text : List ℕ) (r s : Refusal) → IsNotCompiled text r → IsNotCompiled text s → r ≡ s
-one_not_run one text r s (Broken p) (Broken q) = one.refusal text r s p q
-one_not_run one text r s (Broken p) (Unbuilt spec span accepted some) = absurd (one.apart text spec r accepted p)
-one_not_run one text r s (Unbuilt spec span accepted some) (Broken q) = absurd (one.apart text spec s accepted q)
-one_not_run one text r s (Unbuilt spec span accepted some) (Unbuilt other at accepted_other some_other) =
-    ap (λ x. unbuilt (some_span span x))
-    (sym some ∙ (ap not_built (one.spec text spec other accepted accepted_other) ∙ some_other))
+one_broken one text r s (OnReading p) (OnSpec spec read broken) = absurd (never_both one text spec r read p)
+one_broken one text r s (OnSpec spec read broken) (OnReading q) = absurd (never_both one text spec s read q)
+one_broken one text r s (OnSpec spec read broken) (OnSpec other read_other broken_too) =
+    one_rule one other r s (subst (λ x. SpecBreaks x r) (one_spec one text spec other read read_other) broken) broken_too

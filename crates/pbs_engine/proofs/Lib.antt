@@ -1,12 +1,6 @@
 pub mod FrontLemmas
 pub mod LawLemmas
-pub mod MadeLemmas
+pub mod ControllerLemmas
 pub mod RightLemmas
 pub mod EndLemmas
 pub mod OutcomeLaws
-pub mod Lists
-pub mod Declared
-pub mod Counted
-pub mod Ports
-pub mod Pins
-pub mod Emitting

@@ -4,26 +4,26 @@ use Rattle.pbs_base.specs.declared.refusal.Refusal.{Refusal}
 use Rattle.pbs_ast.specs.declared.syntax.Spec.{Spec}
 use Rattle.trace_text.specs.Headers.{Trace, NoHeader, Traced, trace}
 use Rattle.net_trace.specs.Outcomes.{Outcome, refused, ended}
-use Rattle.pbs_engine.specs.Accepted.{IsCompiled, IsNotCompiled}
-use Rattle.pbs_engine.specs.Outcomes.{TextGives, OfRefused, OfHeader, OfRows, input_ports, fired_rows}
+use Rattle.pbs_engine.specs.Accepted.{Breaks, IsAccepted}
+use Rattle.pbs_engine.specs.Outcomes.{TextGives, OfRefused, OfHeader, OfRows, input_ports, due_rows}
 
 -- the laws of what is run
 pub record OneRun : Type 0 where
-  pub spec : (text : List ℕ) (a b : Spec) → IsCompiled text a → IsCompiled text b → a ≡ b
-  pub refusal : (text : List ℕ) (r s : Refusal) → IsNotCompiled text r → IsNotCompiled text s → r ≡ s
-  pub apart : (text : List ℕ) (a : Spec) (r : Refusal) → IsCompiled text a → IsNotCompiled text r → ⊥
+  pub spec : (text : List ℕ) (a b : Spec) → IsAccepted text a → IsAccepted text b → a ≡ b
+  pub refusal : (text : List ℕ) (r s : Refusal) → Breaks text r → Breaks text s → r ≡ s
+  pub apart : (text : List ℕ) (a : Spec) (r : Refusal) → IsAccepted text a → Breaks text r → ⊥
 
 -- the outcome of a specification on a trace
 abbrev outcome_of : Spec → Trace → Outcome
 outcome_of spec (NoHeader r) = refused r
-outcome_of spec (Traced read) = ended (fired_rows spec read.entries) (length read.entries) read.ending
+outcome_of spec (Traced read) = ended (due_rows spec read.entries) (length read.entries) read.ending
 
 -- the one outcome of a specification on the text of a trace
 abbrev outcome : List ℕ → Spec → Outcome
 outcome bytes spec = outcome_of spec (trace (input_ports spec) bytes)
 
 -- a text that is run has that outcome
-run_gives : OneRun → (text bytes : List ℕ) (spec : Spec) (o : Outcome) → IsCompiled text spec → TextGives text bytes o
+run_gives : OneRun → (text bytes : List ℕ) (spec : Spec) (o : Outcome) → IsAccepted text spec → TextGives text bytes o
     → o ≡ outcome bytes spec
 run_gives one text bytes spec o run (OfRefused {r} a) = absurd (one.apart text spec r run a)
 run_gives one text bytes spec o run (OfHeader other {r} run_other is) =
@@ -32,7 +32,7 @@ run_gives one text bytes spec o run (OfRows other run_other read is) =
     ap (outcome_of other) (sym is) ∙ ap (outcome bytes) (one.spec text other spec run_other run)
 
 -- a text that isn't run is refused
-refused_gives : OneRun → (text bytes : List ℕ) (r : Refusal) (o : Outcome) → IsNotCompiled text r → TextGives text bytes o
+refused_gives : OneRun → (text bytes : List ℕ) (r : Refusal) (o : Outcome) → Breaks text r → TextGives text bytes o
     → o ≡ refused r
 refused_gives one text bytes r o a (OfRefused b) = ap refused (one.refusal text _ r b a)
 refused_gives one text bytes r o a (OfHeader spec run is) = absurd (one.apart text spec r run a)

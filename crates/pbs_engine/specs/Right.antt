@@ -1,73 +1,32 @@
 -- The Verilog of a specification.
-use Rattle.std.specs.Prelude.{◌≡◌, ℕ, ◌+◌, ◌*◌, ◌≤◌, List, ◌++◌, length, codes, map, sum, Result, Ok, Err}
-use Rattle.pbs_base.specs.declared.entry.Entry.{Entry}
-use Rattle.pbs_ast.specs.declared.syntax.Level.{Level}
+use Rattle.std.specs.Prelude.{◌≡◌, ℕ, List, ◌++◌, Result, Ok, Err}
 use Rattle.pbs_ast.specs.declared.syntax.Spec.{Spec}
-use Rattle.pbs_ast.specs.Sound.{node_count, place_count}
-use Rattle.pbs_names.specs.Naming.{input_names, action_names}
-use Rattle.pbs_expand.specs.Expanded.{expanded}
-use Rattle.net_core.specs.Rows.{Row}
-use Rattle.net_core.specs.Circuits.{Circuit, IsBuilt, IsCircuit, output_names}
-use Rattle.net_core.specs.Runs.{IsRun}
-use Rattle.vlog_text.specs.Reading.{ElaboratesTo}
-use Rattle.vlog_text.specs.Emitted.{emitted}
-use Rattle.pbs_controller.specs.Controllers.{ShowsRow}
-use Rattle.pbs_controller.specs.Ports.{ports_of}
+use Rattle.net_core.specs.Circuits.{Circuit}
+use Rattle.pbs_realize.specs.Realizes.{IsRight, Realizes}
 use Rattle.pbs_engine.specs.declared.fail.EngineFail.{EngineFail}
 use Rattle.pbs_engine.specs.declared.fail.EngineFail.TheVariants as fails
-use Rattle.pbs_engine.specs.Accepted.{IsCompiled, IsNotCompiled}
-
--- the nodes of the tree and of its terms, the declared inputs, actions and levels, and the assignments of levels
-abbrev pub units : Spec → ℕ
-units spec =
-    node_count (expanded spec) + length (input_names spec.inputs) + length (action_names spec.actions)
-    + length spec.levels + sum (map (λ (l : Level). length l.sets) spec.levels)
-
--- the netlist is a controller of the specification
-pub record Realizes (spec : Spec) (net : Circuit) : Type 0 where
-  -- each gate reads earlier gates only, and what is named is there: so every list of entries has a run
-  pub circuit : IsCircuit net
-  -- a port for each input and for each action, in declared order
-  pub inputs : net.inputs ≡ ports_of (codes "i_") (input_names spec.inputs)
-  pub outputs : output_names net ≡ ports_of (codes "a_") (action_names spec.actions)
-  -- in every run from reset the output of an action is 1 in exactly the rows where a derivation of the vectors since
-  -- the last reset ends at it, and register p after a row tells whether place p stands
-  pub shows : (v : List Entry) (rows : ℕ → Row) → IsRun net v rows → (k : ℕ) → k ≤ length v
-      → ShowsRow net (expanded spec) (length (action_names spec.actions)) v rows k
-  pub registers : length net.registers ≡ place_count (expanded spec)
-  -- `buf`, `not`, `and` and `or` with at most two pins, and at most 32 gates for each unit
-  pub plain : IsBuilt net.gates
-  pub few : length net.gates ≤ 32 * units spec
-
--- the text has at most 67,108,864 bytes, breaks no rule, and stands for a controller of the specification; and it is
--- the text that is written for that netlist: its ports are `clk`, `rst`, the inputs and the actions in this order, and
--- its registers are `q0`, `q1` and so on
-pub record IsRight (spec : Spec) (text : List ℕ) : Type 0 where
-  pub net : Circuit
-  pub stands : ElaboratesTo text net
-  pub written : text ≡ emitted net
-  pub realizes : Realizes spec net
+use Rattle.pbs_engine.specs.Accepted.{Breaks, IsAccepted}
 
 -- the second text is Verilog of the specification that the first stands for
 pub record IsVerilogOf (text verilog : List ℕ) : Type 0 where
   pub spec : Spec
-  pub run : IsCompiled text spec
+  pub accepted : IsAccepted text spec
   pub right : IsRight spec verilog
 
 -- what was appended is Verilog of the text's specification; nothing was where the text is refused, or no memory was
 -- found
 abbrev pub Compiles : List ℕ → List ℕ → List ℕ → Result (Unit {0}) EngineFail → Type 0
 Compiles text before now (Ok done) = (verilog : List ℕ) × IsVerilogOf text verilog × (now ≡ before ++ verilog)
-Compiles text before now (Err (fails.Refused r)) = IsNotCompiled text r × (now ≡ before)
+Compiles text before now (Err (fails.Refused r)) = Breaks text r × (now ≡ before)
 Compiles text before now (Err fails.Memory) = now ≡ before
 
 -- the netlist is what such Verilog stands for
 pub record IsReadBack (text : List ℕ) (net : Circuit) : Type 0 where
   pub spec : Spec
-  pub run : IsCompiled text spec
+  pub accepted : IsAccepted text spec
   pub realizes : Realizes spec net
 
 abbrev pub ReadsBack : List ℕ → Result Circuit EngineFail → Type 0
 ReadsBack text (Ok net) = IsReadBack text net
-ReadsBack text (Err (fails.Refused r)) = IsNotCompiled text r
+ReadsBack text (Err (fails.Refused r)) = Breaks text r
 ReadsBack text (Err fails.Memory) = Unit {0}

@@ -1,2 +1,2 @@
-pub mod Made
-pub mod NameWords
+pub mod AcceptedAs
+pub mod Controllers

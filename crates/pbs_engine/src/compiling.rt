@@ -1,25 +1,20 @@
 // Writes the Verilog of a specification.
-ghost use Rattle.std.specs.Prelude.{◌≡◌};
 ghost use Rattle.pbs_engine.specs.Right.{Compiles, IsVerilogOf, ReadsBack};
 
-use crate::controller::make;
+use crate::controller::controller_of_text;
 use crate::fail::EngineFail;
-use crate::laws::emitted_stands;
 use net_core::Netlist;
-use pbs_check::laws::within_limits;
 use std::alloc::Global;
 use vlog_read::laws::one_answer;
 use vlog_read::{VlogFail, read_netlist};
 use vlog_write::write_netlist;
 
-/// Appends the Verilog of the specification: docs/VERILOG.md. `Refused` comes by the rules of `check`, or by rule 17
-/// where the specification has a scope or a level. After a failure `out` is as it was.
+/// Appends the Verilog of the specification: docs/VERILOG.md. `Refused` comes by the rules of `check`. After a failure
+/// `out` is as it was.
 pub fn compile(alloc: Global, text: &[u8], out: &mut Vec<u8>) -> Result<(), EngineFail>
     ensures { Compiles text.now out.old.items out.new.items result }
 {
-    emitted_stands();
-    within_limits();
-    let net = match make(alloc, text) {
+    let net = match controller_of_text(alloc, text) {
         Ok(net) => net,
         Err(fail) => return Err(fail),
     };
@@ -30,7 +25,7 @@ pub fn compile(alloc: Global, text: &[u8], out: &mut Vec<u8>) -> Result<(), Engi
 }
 
 /// The netlist that the Verilog of the specification stands for.
-pub(crate) fn read_back(alloc: Global, text: &[u8]) -> Result<Netlist, EngineFail>
+pub(crate) fn written_netlist(alloc: Global, text: &[u8]) -> Result<Netlist, EngineFail>
     ensures { ReadsBack text.now result }
 {
     let mut verilog = Vec::new(alloc);
@@ -38,11 +33,11 @@ pub(crate) fn read_back(alloc: Global, text: &[u8]) -> Result<Netlist, EngineFai
         Ok(()) => {}
         Err(fail) => return Err(fail),
     }
-    reread(alloc, text, verilog.as_slice())
+    netlist_of_verilog(alloc, text, verilog.as_slice())
 }
 
 // The netlist of Verilog that was written.
-fn reread(alloc: Global, text: &[u8], verilog: &[u8]) -> Result<Netlist, EngineFail>
+fn netlist_of_verilog(alloc: Global, text: &[u8], verilog: &[u8]) -> Result<Netlist, EngineFail>
     requires { IsVerilogOf text.now verilog.now }
     ensures { ReadsBack text.now result }
 {

@@ -6,20 +6,19 @@ ghost use Rattle.pbs_io.specs.Taken.{TakesAtMost};
 ghost use Rattle.pbs_base.specs.declared.refusal.Refusal.{Refusal as RefusalValue};
 ghost use Rattle.net_trace.specs.declared.fail.RunFail.TheVariants as fails;
 ghost use Rattle.net_trace.specs.Endings.{TaskEnds};
-ghost use Rattle.pbs_engine.specs.Accepted.{IsNotCompiled};
+ghost use Rattle.pbs_engine.specs.Accepted.{Breaks};
 ghost use Rattle.pbs_engine.specs.Outcomes.{text_task};
 
-use crate::compiling::read_back;
+use crate::compiling::written_netlist;
 use crate::fail::EngineFail;
-use crate::laws::one_compiled;
+use crate::laws::one_check;
 use net_trace::{RunFail, simulate};
 use pbs_io::{Shelf, Sink};
 use std::alloc::Global;
 
 /// Compiles the specification, reads its Verilog back, and writes the report of that netlist on the named trace, which
 /// is opened in slot 1: each row is written as it comes, and the line of the refusal in which a trace may end isn't
-/// written. `Refused` comes by the rules of `check`, by rule 17 where the specification has a scope or a level, or by
-/// the rules of traces; by the first two nothing is opened or written.
+/// written. `Refused` comes by the rules of `check`, and then nothing is opened or written, or by those of traces.
 pub fn trace<S: Shelf, K: Sink>(
     alloc: Global,
     text: &[u8],
@@ -34,12 +33,12 @@ pub fn trace<S: Shelf, K: Sink>(
         (K.state sink.old) (K.state sink.new) result }
     ensures few { ForSome (S.state shelf.old).files (λ files. TakesAtMost 67108865 (content_of files name.now)
         ((S.state shelf.old).slots 1) ((S.state shelf.new).slots 1)) }
-    ensures untouched { (r : RefusalValue) → IsNotCompiled text.now r → (shelf.new ≡ shelf.old) × (sink.new ≡ sink.old) }
-    ensures no_fault { (r : RefusalValue) → IsNotCompiled text.now r
+    ensures untouched { (r : RefusalValue) → Breaks text.now r → (shelf.new ≡ shelf.old) × (sink.new ≡ sink.old) }
+    ensures no_fault { (r : RefusalValue) → Breaks text.now r
         → (result ≢ Err fails.ReadFault) × (result ≢ Err fails.WriteFault) }
 {
-    one_compiled();
-    match read_back(alloc, text) {
+    one_check();
+    match written_netlist(alloc, text) {
         Ok(net) => simulate(alloc, &net, shelf, name, sink),
         Err(EngineFail::Refused(refusal)) => Err(RunFail::Refused(refusal)),
         Err(EngineFail::Memory) => Err(RunFail::Memory),

@@ -4,7 +4,6 @@
 
 mod diagrams;
 mod edges;
-mod firing;
 mod front;
 mod overlap;
 mod stop;

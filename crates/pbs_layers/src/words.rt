@@ -1,7 +1,6 @@
 // The words of rows.
 use crate::diagrams::answer_disjoint;
 use crate::edges::{answer_edges, answer_terms};
-use crate::firing::answer_fires;
 use crate::front::{answer_check, answer_expand, answer_print, answer_read};
 use crate::overlap::{answer_overlap, answer_together};
 use crate::stop::Stop;
@@ -25,11 +24,6 @@ pub(crate) fn answer_words(
         [word, text] => {
             let text = bytes_of(files, text.as_str())?;
             answer_one(alloc, word.as_str(), text)
-        }
-        [word, text, rows] if word.as_str() == "fires" => {
-            let text = bytes_of(files, text.as_str())?;
-            let rows = bytes_of(files, rows.as_str())?;
-            Some(answer_fires(alloc, text, rows))
         }
         _ => None,
     }

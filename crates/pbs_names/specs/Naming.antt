@@ -5,6 +5,7 @@ use Rattle.std.specs.List.{position_from}
 use Rattle.std.specs.Cmp.Lexicographic.{pointwise}
 use Rattle.pbs_ast.specs.declared.syntax.Decl.{Decl}
 use Rattle.pbs_ast.specs.declared.syntax.Expr.{Expr}
+use Rattle.pbs_ast.specs.declared.syntax.Level.{Level}
 use Rattle.pbs_ast.specs.declared.syntax.Prod.{Prod}
 use Rattle.pbs_names.specs.declared.buses.Bus.{Bus}
 
@@ -28,6 +29,9 @@ input_names (d ∷ ds) = inputs_of d ++ input_names ds
 
 abbrev pub action_names : List Decl → List (List ℕ)
 action_names ds = map (λ d. d.name) ds
+
+abbrev pub level_names : List Level → List (List ℕ)
+level_names ls = map (λ l. l.name) ls
 
 abbrev pub prod_names : List Prod → List (List ℕ)
 prod_names ps = map (λ p. p.name) ps

@@ -8,4 +8,4 @@ mod names;
 
 pub use buses::{Bus, find_bus, input_count};
 pub use index::{Index, Numbers, body_of};
-pub use names::{action_words, bit_word, input_words, prod_words};
+pub use names::{action_words, bit_word, input_words, level_words, prod_words};

@@ -1,8 +1,8 @@
 // The names that a specification declares, in order.
 ghost use Rattle.std.specs.Prelude.{◌≡◌, ◌++◌, IfOk, OnOk};
-ghost use Rattle.pbs_names.specs.Naming.{bit_name, bit_names, input_names, action_names, prod_names};
+ghost use Rattle.pbs_names.specs.Naming.{bit_name, bit_names, input_names, action_names, level_names, prod_names};
 
-use pbs_ast::{Decls, Prods};
+use pbs_ast::{Decls, Levels, Prods};
 use pbs_base::{Memory, Word};
 use std::alloc::Global;
 
@@ -47,6 +47,16 @@ pub fn action_words(alloc: Global, actions: &Decls) -> Result<Vec<Word>, Memory>
     let mut words = Vec::new(alloc);
     for decl in actions.as_slice() {
         words.push(Word::new(alloc, decl.name.bytes())?)?;
+    }
+    Ok(words)
+}
+
+pub fn level_words(alloc: Global, levels: &Levels) -> Result<Vec<Word>, Memory>
+    ensures { IfOk result (λ words. words.items ≡ level_names levels.now) }
+{
+    let mut words = Vec::new(alloc);
+    for level in levels.as_slice() {
+        words.push(Word::new(alloc, level.name.bytes())?)?;
     }
     Ok(words)
 }

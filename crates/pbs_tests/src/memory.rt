@@ -40,7 +40,7 @@ fn traces(rt: HostRuntime) -> Result<(), Fail> {
 
 #[test]
 fn refuses(rt: HostRuntime) -> Result<(), Fail> {
-    let line: &[u8] = b"spec refused rule 17 at 63..150\n";
+    let line: &[u8] = b"spec refused rule 16 at 63..150\n";
     assert!(rt; ends(&rt, &["trace", "s", "t"], RESTART, 1, line)?);
     Ok(())
 }

@@ -3,7 +3,7 @@ use Rattle.pbs_engine.proofs.laws.one_outcome.Goals as goal
 
 pub returns : goal.returns
 returns c = one_gives (record {
-  spec = c.one_compiled.ensures.spec;
-  refusal = c.one_compiled.ensures.refusal;
-  apart = c.one_compiled.ensures.apart;
+  spec = c.one_check.ensures.spec;
+  refusal = c.one_check.ensures.refusal;
+  apart = c.one_check.ensures.apart;
 })

@@ -14,11 +14,11 @@ returns-in-Ok-clause-ends g c =
 
 pub returns-in-Ok-clause-untouched : goal.returns-in-Ok-clause-untouched
 returns-in-Ok-clause-untouched g c = λ r refused.
-    let back = c.in-Ok.ensures in absurd (c.one_compiled.ensures.apart c.args.text.now back.spec r back.run refused)
+    let back = c.in-Ok.ensures in absurd (c.one_check.ensures.apart c.args.text.now back.spec r back.accepted refused)
 
 pub returns-in-Ok-clause-no_fault : goal.returns-in-Ok-clause-no_fault
 returns-in-Ok-clause-no_fault g c = λ r refused.
-    let back = c.in-Ok.ensures in absurd (c.one_compiled.ensures.apart c.args.text.now back.spec r back.run refused)
+    let back = c.in-Ok.ensures in absurd (c.one_check.ensures.apart c.args.text.now back.spec r back.accepted refused)
 
 pub returns-in-Err-Refused-clause-ends : goal.returns-in-Err-Refused-clause-ends
 returns-in-Err-Refused-clause-ends g c =
