@@ -1,0 +1,5 @@
+pub mod Twins
+pub mod Groups
+pub mod Plans
+pub mod inner
+pub mod Runs

@@ -1,0 +1,3 @@
+pub mod Rooms
+pub mod Signatures
+pub mod Leading

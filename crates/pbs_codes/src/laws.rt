@@ -1,0 +1,38 @@
+//! The laws of codes. Each is a function that does nothing, and its clauses are the law.
+
+ghost use Rattle.std.specs.Prelude.{◌≡◌, List, false, suc, true, ℕ};
+ghost use Rattle.pbs_ast.specs.Trees.{Tree};
+ghost use Rattle.pbs_ast.specs.Sound.{IsSound};
+ghost use Rattle.pbs_derive.specs.Derivations.{stands};
+ghost use Rattle.pbs_edges.specs.Walks.{BreaksNoScope};
+ghost use Rattle.pbs_codes.specs.Twins.{AreTwins, HasEdge, IsNever};
+ghost use Rattle.pbs_codes.specs.Plans.{IsCodePlan};
+ghost use Rattle.pbs_codes.specs.Runs.{FitsRuns, IsWhole};
+ghost use Rattle.pbs_codes.specs.declared.code_plan.CodePlan.{CodePlan};
+
+/// A place that stands was reached by an edge from a place that stood one vector before, and every other edge from
+/// there by the same node was taken too. So twins stand at the same positions.
+pub fn twins_stand_together()
+    ensures step { (main : Tree) (v : List ℕ) (k p : ℕ) → IsSound main → stands main v 0 (suc k) p ≡ true
+        → (r : ℕ) × (n : ℕ) × (stands main v 0 k r ≡ true) × HasEdge main r p n
+        × ((q : ℕ) → HasEdge main r q n → stands main v 0 (suc k) q ≡ true) }
+    ensures twins { (main : Tree) (v : List ℕ) (k p q : ℕ) → IsSound main → AreTwins main p q
+        → stands main v 0 k p ≡ stands main v 0 k q }
+{}
+
+/// A never place stands at no position.
+pub fn never_places_never_stand()
+    ensures { (main : Tree) (v : List ℕ) (k p : ℕ) → IsSound main → BreaksNoScope main → IsNever main p
+        → stands main v 0 k p ≡ false }
+{}
+
+/// A plan of an accepted tree fits each run.
+pub fn plan_fits_runs()
+    ensures { (main : Tree) (plan : CodePlan) → IsSound main → BreaksNoScope main → IsCodePlan main plan
+        → FitsRuns main plan }
+{}
+
+/// In a plan each leader has its place in one group.
+pub fn plan_is_whole()
+    ensures { (main : Tree) (plan : CodePlan) → IsCodePlan main plan → IsWhole main plan }
+{}
