@@ -6,8 +6,8 @@ ghost use Rattle.pbs_ast.specs.Sound.{IsSound};
 ghost use Rattle.pbs_derive.specs.Derivations.{stands};
 ghost use Rattle.pbs_edges.specs.Walks.{BreaksNoScope};
 ghost use Rattle.pbs_codes.specs.Twins.{AreTwins, HasEdge, IsNever};
-ghost use Rattle.pbs_codes.specs.Plans.{IsCodePlan};
-ghost use Rattle.pbs_codes.specs.Runs.{FitsRuns, IsWhole};
+ghost use Rattle.pbs_codes.specs.Plans.{IsCodePlan, IsWhole};
+ghost use Rattle.pbs_codes.specs.Runs.{FitsRuns};
 ghost use Rattle.pbs_codes.specs.declared.code_plan.CodePlan.{CodePlan};
 
 /// A place that stands was reached by an edge from a place that stood one vector before, and every other edge from
@@ -32,7 +32,12 @@ pub fn plan_fits_runs()
         → FitsRuns main plan }
 {}
 
-/// In a plan each leader has its place in one group.
+/// In a plan each leader stands in one group.
 pub fn plan_is_whole()
-    ensures { (main : Tree) (plan : CodePlan) → IsCodePlan main plan → IsWhole main plan }
+    ensures { (main : Tree) (plan : CodePlan) → IsCodePlan main plan → IsWhole plan }
+{}
+
+/// A tree has one plan.
+pub fn one_code_plan()
+    ensures { (main : Tree) (plan other : CodePlan) → IsCodePlan main plan → IsCodePlan main other → plan ≡ other }
 {}

@@ -5,8 +5,8 @@ ghost use Rattle.pbs_ast.specs.Sound.{place_count};
 ghost use Rattle.pbs_edges.specs.Found.{AreEdges};
 ghost use Rattle.pbs_edges.specs.Walks.{BreaksNoScope};
 ghost use Rattle.pbs_overlap.specs.Told.{TellsTogether};
-ghost use Rattle.pbs_codes.specs.Plans.{IsCodePlan};
-ghost use Rattle.pbs_codes.specs.Runs.{FitsRuns, IsWhole};
+ghost use Rattle.pbs_codes.specs.Plans.{IsCodePlan, IsWhole};
+ghost use Rattle.pbs_codes.specs.Runs.{FitsRuns};
 
 use crate::code_plan::CodePlan;
 use crate::grouping::group_all;
@@ -51,7 +51,7 @@ pub fn plan(alloc: Global, main: &Main, edges: &Edges, pairs: &Pairs) -> Result<
     requires accepted { BreaksNoScope (tree_of main.now.tree) }
     ensures plan { IfOk result (IsCodePlan (tree_of main.now.tree)) }
     ensures runs { IfOk result (FitsRuns (tree_of main.now.tree)) }
-    ensures whole { IfOk result (IsWhole (tree_of main.now.tree)) }
+    ensures whole { IfOk result (λ plan. IsWhole plan) }
 {
     let places = count_places(&main.tree);
     let starts = edges.starts.as_slice();
