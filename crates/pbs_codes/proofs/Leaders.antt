@@ -198,7 +198,8 @@ module _ (pairs : Pairs) (all : List (List ℕ)) (n : ℕ) (never leaders firsts
           ],
         );
         firsts_rise = push_rises firsts n old.firsts_rise (λ x c. ((old.firsts_are x).0 c).0);
-        seen_are = ap (λ s. s ++ signature_at all n ∷ []) old.seen_are ∙ sym (map-append (signature_at all) firsts (n ∷ []));
+        seen_are = ap (λ s. s ++ signature_at all n ∷ []) old.seen_are
+            ∙ sym (map-append (signature_at all) firsts (n ∷ []));
       }
 
 -- the same, as a table of leaders is read

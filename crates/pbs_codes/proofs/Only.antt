@@ -22,7 +22,8 @@ rest_of x z xs ys rise m h = elim h [
 ]
 
 -- rising lists with the same members are equal
-same_members : (xs ys : List ℕ) → IsStrictlyIncreasing xs → IsStrictlyIncreasing ys → ((x : ℕ) → OneOf xs x → OneOf ys x)
+same_members : (xs ys : List ℕ) → IsStrictlyIncreasing xs → IsStrictlyIncreasing ys
+    → ((x : ℕ) → OneOf xs x → OneOf ys x)
     → ((x : ℕ) → OneOf ys x → OneOf xs x) → xs ≡ ys
 same_members [] [] rise up to back = refl
 same_members [] (y ∷ ys) rise up to back = absurd (back y (inl refl))

@@ -1,5 +1,5 @@
--- Two places have the same signature exactly where a start edge leads to both or neither and the edges to them leave the
--- same places by the same nodes.
+-- Two places have the same signature exactly where a start edge leads to both or neither, and the edges to them leave
+-- the same places by the same nodes.
 use Rattle.std.proofs.Common.{◌≡◌, ℕ, suc, ◌<◌, ◌⊎◌, inl, inr, Bool, true, false, List, []}
 use Rattle.std.proofs.Common.{◌∷◌, ◌++◌, length, get_or, refl, sym, ◌∙◌, ap, subst, arith, add-one}
 use Rattle.std.specs.Prelude.{nat_eq, if◌then◌else◌}
@@ -202,4 +202,5 @@ module _ (starts : List ℕ) (edges : List Edge) (p q : ℕ) where
 
   pub signature_same : is_start starts p ≡ is_start starts q → sources edges p ≡ sources edges q
       → signature starts edges p ≡ signature starts edges q
-  signature_same e f = ap (λ b. start_number b ++ sources edges p) e ∙ ap (λ xs. start_number (is_start starts q) ++ xs) f
+  signature_same e f = ap (λ b. start_number b ++ sources edges p) e
+      ∙ ap (λ xs. start_number (is_start starts q) ++ xs) f
