@@ -2,6 +2,7 @@
 // name its files.
 #![tactic(auto)]
 
+mod codes;
 mod diagrams;
 mod edges;
 mod front;

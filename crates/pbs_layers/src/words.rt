@@ -1,4 +1,5 @@
 // The words of rows.
+use crate::codes::answer_codes;
 use crate::diagrams::answer_disjoint;
 use crate::edges::{answer_edges, answer_terms};
 use crate::front::{answer_check, answer_expand, answer_print, answer_read};
@@ -41,6 +42,7 @@ fn answer_one(alloc: Global, word: &str, text: &[u8]) -> Option<Result<Vec<u8>, 
         "terms" => answer_terms(alloc, text),
         "overlap" => answer_overlap(alloc, text),
         "together" => answer_together(alloc, text),
+        "codes" => answer_codes(alloc, text),
         "disjoint" => answer_disjoint(alloc, text),
         _ => return None,
     };
