@@ -1,21 +1,21 @@
 //! The laws of codes. Each is a function that does nothing, and its clauses are the law.
 
-ghost use Rattle.std.specs.Prelude.{◌≡◌, List, false, suc, true, ℕ};
+ghost use Rattle.std.specs.Prelude.{◌≡◌, ◌↔◌, List, false, suc, true, ℕ};
 ghost use Rattle.pbs_ast.specs.Trees.{Tree};
 ghost use Rattle.pbs_ast.specs.Sound.{IsSound};
 ghost use Rattle.pbs_derive.specs.Derivations.{stands};
 ghost use Rattle.pbs_edges.specs.Walks.{BreaksNoScope};
 ghost use Rattle.pbs_codes.specs.Twins.{AreTwins, HasEdge, IsNever};
 ghost use Rattle.pbs_codes.specs.Plans.{IsCodePlan, IsWhole};
-ghost use Rattle.pbs_codes.specs.Runs.{FitsRuns};
+ghost use Rattle.pbs_codes.specs.Runs.{FitsRuns, IsTaken};
 ghost use Rattle.pbs_codes.specs.declared.code_plan.CodePlan.{CodePlan};
 
-/// A place that stands was reached by an edge from a place that stood one vector before, and every other edge from
-/// there by the same node was taken too. So twins stand at the same positions.
+/// Behind a vector a place stands exactly where an edge to it is taken, and whether one is depends on the place that it
+/// leaves, its node and the run, and not on the place that it leads to. So twins stand at the same positions.
 pub fn twins_stand_together()
-    ensures step { (main : Tree) (v : List ℕ) (k p : ℕ) → IsSound main → stands main v 0 (suc k) p ≡ true
-        → (r : ℕ) × (n : ℕ) × (stands main v 0 k r ≡ true) × HasEdge main r p n
-        × ((q : ℕ) → HasEdge main r q n → stands main v 0 (suc k) q ≡ true) }
+    ensures step { (main : Tree) (v : List ℕ) (k p : ℕ) → IsSound main
+        → (stands main v 0 (suc k) p ≡ true)
+        ↔ ((r : ℕ) × (n : ℕ) × IsTaken main v k r n × HasEdge main r p n) }
     ensures twins { (main : Tree) (v : List ℕ) (k p q : ℕ) → IsSound main → AreTwins main p q
         → stands main v 0 k p ≡ stands main v 0 k q }
 {}
