@@ -1,6 +1,6 @@
 -- A store with one branch more.
 use Rattle.std.proofs.Common.{◌≡◌, ◌⊎◌, inl, inr, ℕ, ◌<◌, ◌≤◌, ◌+◌, Bool, true, false, if◌then◌else◌, List, [], ◌∷◌}
-use Rattle.std.proofs.Common.{◌++◌, length, Option, Some, refl, sym, ap, subst, ◌∙◌, arith}
+use Rattle.std.proofs.Common.{◌++◌, length, Option, Some, None, refl, sym, ap, subst, ◌∙◌, arith}
 use Rattle.std.proofs.lemmas.Bool.{cases_eq}
 use Rattle.std.specs.Prelude.{slice_get, cond}
 use Rattle.std.specs.List.{list_any}
@@ -11,11 +11,12 @@ use Rattle.bool_bdd.specs.declared.node.Node.{Node}
 use Rattle.bool_bdd.specs.declared.node.Node.TheVariants.{Inner}
 use Rattle.bool_bdd.specs.declared.node.Branch.{Branch}
 use Rattle.bool_bdd.specs.declared.node.Choice.{Choice}
-use Rattle.bool_bdd.specs.Members.{branch_eq, choice_eq}
+use Rattle.bool_bdd.specs.Members.{branch_eq, choice_eq, node_eq}
 use Rattle.bool_bdd.specs.Diagrams.{branch_at, next_of, node_holds}
-use Rattle.bool_bdd.specs.Diagrams.{FitsAt, IsDiagram, Grows, IsAfter, IsMade}
-use Rattle.bool_bdd.specs.Choices.{IsChosen, IsStore}
-use Rattle.bool_bdd.proofs.Alike.{same_branch, same_choice}
+use Rattle.bool_bdd.specs.Diagrams.{FitsAt, IsDiagram, Grows, IsAfter, IsMade, IsNode}
+use Rattle.bool_bdd.specs.Choices.{AreLeasts, IsChosen, IsStore}
+use Rattle.bool_bdd.specs.Least.{IsLeastOf}
+use Rattle.bool_bdd.proofs.Alike.{same_branch, same_choice, same_node}
 use Rattle.bool_bdd.proofs.Meaning.{among_more, level_grown, node_grown, holds_grown, holds_inner}
 
 grows_same : (nodes : List Branch) → Grows nodes nodes
@@ -108,23 +109,41 @@ chosen_grown old new c n d g h =
           rw (node, test_holds, true_holds, false_holds) (h.meaning v);
     }
 
+-- a least vector stays that of its node
+least_grown : (old new : List Branch) (n : Node) (answer : Option ℕ) → IsDiagram old → Grows old new → IsNode old n
+    → IsLeastOf old n answer → IsLeastOf new n answer
+least_grown old new n None d g h is = record { never = λ v. holds_grown old new n v d g h ∙ is.never v }
+least_grown old new n (Some v) d g h is = record {
+  holds = holds_grown old new n v d g h ∙ is.holds;
+  least = λ w e. is.least w (sym (holds_grown old new n w d g h) ∙ e);
+}
+
+leasts_grown : (old new : List Branch) (kept : Node → Option (Option ℕ)) → IsDiagram old → Grows old new
+    → AreLeasts old kept → AreLeasts new kept
+leasts_grown old new kept d g l = record {
+  there = λ n answer e. node_grown old new n g (l.there n answer e);
+  right = λ n answer e. least_grown old new n answer d g (l.there n answer e) (l.right n answer e);
+}
+
 -- what a store keeps is right after a branch more
-pub store_insert : (nodes : List Branch) (x : Branch) (known : Choice → Option Node) → IsStore nodes known
-    → x.variable < 64
-    → IsAfter nodes x.variable x.low → IsAfter nodes x.variable x.high → IsStore (insert_key branch_eq nodes x) known
-store_insert nodes x known s v p q = record {
+pub store_insert : (nodes : List Branch) (x : Branch) (known : Choice → Option Node) (kept : Node → Option (Option ℕ))
+    → IsStore nodes known kept → x.variable < 64
+    → IsAfter nodes x.variable x.low → IsAfter nodes x.variable x.high → IsStore (insert_key branch_eq nodes x) known kept
+store_insert nodes x known kept s v p q = record {
   diagram = diagram_insert nodes x s.diagram v p q;
   right =
       λ c n e. chosen_grown nodes (insert_key branch_eq nodes x) c n s.diagram (grows_insert nodes x) (s.right c n e);
+  leasts = leasts_grown nodes (insert_key branch_eq nodes x) kept s.diagram (grows_insert nodes x) s.leasts;
 }
 
 -- and after an answer more
-pub store_keep : (nodes : List Branch) (old new : Choice → Option Node) (c : Choice) (n : Node) → IsStore nodes old
-    → IsChosen nodes c n
-    → ((q : Choice) → new q ≡ cond (choice_eq c q) (Some n) (old q)) → IsStore nodes new
-store_keep nodes old new c n s h more = record {
+pub store_keep : (nodes : List Branch) (old new : Choice → Option Node) (kept : Node → Option (Option ℕ)) (c : Choice)
+    (n : Node) → IsStore nodes old kept → IsChosen nodes c n
+    → ((q : Choice) → new q ≡ cond (choice_eq c q) (Some n) (old q)) → IsStore nodes new kept
+store_keep nodes old new kept c n s h more = record {
   diagram = s.diagram;
   right = λ q m e. by q m (choice_eq c q) refl (sym (more q) ∙ e);
+  leasts = s.leasts;
 }
   where
     by : (q : Choice) (m : Node) (t : Bool) → choice_eq c q ≡ t → cond t (Some n) (old q) ≡ Some m → IsChosen nodes q m
@@ -132,6 +151,31 @@ store_keep nodes old new c n s h more = record {
         subst (λ (y : Node). IsChosen nodes q y) (same_Some n m e)
         (subst (λ (y : Choice). IsChosen nodes y n) (same_choice c q same) h)
     by q m false same e = s.right q m e
+
+-- and after a least vector more
+pub store_keep_least : (nodes : List Branch) (known : Choice → Option Node) (old new : Node → Option (Option ℕ)) (n : Node)
+    (answer : Option ℕ) → IsStore nodes known old → IsNode nodes n → IsLeastOf nodes n answer
+    → ((m : Node) → new m ≡ cond (node_eq n m) (Some answer) (old m)) → IsStore nodes known new
+store_keep_least nodes known old new n answer s h is more = record {
+  diagram = s.diagram;
+  right = s.right;
+  leasts = record {
+    there = λ m other e. there m other (node_eq n m) refl (sym (more m) ∙ e);
+    right = λ m other e. right m other (node_eq n m) refl (sym (more m) ∙ e);
+  };
+}
+  where
+    there : (m : Node) (other : Option ℕ) (t : Bool) → node_eq n m ≡ t → cond t (Some answer) (old m) ≡ Some other
+        → IsNode nodes m
+    there m other true same e = subst (λ (y : Node). IsNode nodes y) (same_node n m same) h
+    there m other false same e = s.leasts.there m other e
+
+    right : (m : Node) (other : Option ℕ) (t : Bool) → node_eq n m ≡ t → cond t (Some answer) (old m) ≡ Some other
+        → IsLeastOf nodes m other
+    right m other true same e =
+        subst (λ (y : Option ℕ). IsLeastOf nodes m y) (same_Some answer other e)
+        (subst (λ (y : Node). IsLeastOf nodes y answer) (same_node n m same) is)
+    right m other false same e = s.leasts.right m other e
 
 pub made_insert : (new : List Branch) (x : Branch) (n : ℕ) → IsDiagram new → n < length new
     → (y : Branch) × (slice_get new n ≡ Some y) × (branch_eq x y ≡ true) → IsMade new x (Inner n)

@@ -4,3 +4,4 @@ pub mod Vectors
 pub mod Growing
 pub mod Answering
 pub mod Disjoint
+pub mod Leasts

@@ -3,6 +3,7 @@ use Rattle.std.specs.Prelude.{◌≡◌, ℕ, ◌≤◌, min, Bool, if◌then◌
 use Rattle.bool_bdd.specs.declared.node.Node.{Node}
 use Rattle.bool_bdd.specs.declared.node.Branch.{Branch}
 use Rattle.bool_bdd.specs.declared.node.Choice.{Choice}
+use Rattle.bool_bdd.specs.Least.{IsLeastOf}
 use Rattle.bool_bdd.specs.Diagrams.{IsDiagram, IsNode, level, node_holds, side_of}
 
 -- the nodes of the question belong to the store
@@ -35,7 +36,13 @@ pub record IsChosen (nodes : List Branch) (c : Choice) (n : Node) : Type 0 where
   pub later : first_of nodes c ≤ level nodes n
   pub meaning : (v : ℕ) → node_holds nodes n v ≡ choice_holds nodes c v
 
--- what holds of every store: it is a diagram, and the answers that it keeps are right
-pub record IsStore (nodes : List Branch) (known : Choice → Option Node) : Type 0 where
+-- what is kept for each node is its least vector
+pub record AreLeasts (nodes : List Branch) (kept : Node → Option (Option ℕ)) : Type 0 where
+  pub there : (n : Node) (answer : Option ℕ) → kept n ≡ Some answer → IsNode nodes n
+  pub right : (n : Node) (answer : Option ℕ) → kept n ≡ Some answer → IsLeastOf nodes n answer
+
+-- what holds of every store: it is a diagram, and the answers and the least vectors that it keeps are right
+pub record IsStore (nodes : List Branch) (known : Choice → Option Node) (kept : Node → Option (Option ℕ)) : Type 0 where
   pub diagram : IsDiagram nodes
   pub right : (c : Choice) (n : Node) → known c ≡ Some n → IsChosen nodes c n
+  pub leasts : AreLeasts nodes kept

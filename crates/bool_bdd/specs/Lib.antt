@@ -2,3 +2,4 @@ pub mod Diagrams
 pub mod Choices
 pub mod inner
 pub mod Members
+pub mod Least

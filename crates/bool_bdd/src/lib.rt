@@ -2,6 +2,7 @@
 #![tactic(auto)]
 
 mod apart;
+mod least;
 mod node;
 mod store;
 

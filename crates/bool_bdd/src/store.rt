@@ -5,6 +5,7 @@ ghost use Rattle.pbs_base.specs.Entries.{bit};
 ghost use Rattle.bool_terms.specs.Terms.{holds, term_inputs_below, term_of};
 ghost use Rattle.bool_bdd.specs.Diagrams.{branch_at, level, node_holds, side_of};
 ghost use Rattle.bool_bdd.specs.Diagrams.{FitsAt, Grows, IsAfter, IsDiagram, IsFor, IsMade, IsNode, Keeps};
+ghost use Rattle.bool_bdd.specs.Least.{IsLeastOf};
 ghost use Rattle.bool_bdd.specs.Choices.{first_of, sides_of, IsAsked, IsChosen};
 ghost use Rattle.bool_bdd.specs.declared.node.Node.TheVariants.{Leaf, Inner};
 
@@ -22,6 +23,8 @@ use std::marker::Model;
 pub struct Store {
     branches: IndexSet<Branch>,
     chosen: HashMap<Choice, Node>,
+    // The least vectors of branches.
+    leasts: HashMap<Node, Option<u64>>,
 }
 
 impl Model for Store {
@@ -29,13 +32,13 @@ impl Model for Store {
     ghost use Rattle.std.specs.HashMap.{get};
     ghost use Rattle.bool_bdd.specs.declared.node.Branch.{Branch};
     ghost use Rattle.bool_bdd.specs.Choices.{IsStore};
-    ghost use Rattle.bool_bdd.specs.Members.{choice_eq};
+    ghost use Rattle.bool_bdd.specs.Members.{choice_eq, node_eq};
 
     ghost Value = { List Branch };
 
     ghost view = { λ s. s.branches.keys };
 
-    ghost invariant = { λ s. IsStore s.branches.keys (λ c. get choice_eq s.chosen c) };
+    ghost invariant = { λ s. IsStore s.branches.keys (λ c. get choice_eq s.chosen c) (λ n. get node_eq s.leasts n) };
 }
 
 impl Store {
@@ -45,6 +48,7 @@ impl Store {
         Store {
             branches: IndexSet::new(alloc),
             chosen: HashMap::new(alloc),
+            leasts: HashMap::new(alloc),
         }
     }
 
@@ -56,14 +60,14 @@ impl Store {
     {
         match t {
             Term::Const(value) => Ok(Node::Leaf(*value)),
-            Term::Input(n) => self.input(*n),
+            Term::Input(n) => self.var(*n),
             Term::Not(inner) => match self.of_term(inner) {
-                Ok(inner) => self.negation(inner),
+                Ok(inner) => self.not(inner),
                 Err(Memory) => Err(Memory),
             },
             Term::And(left, right) => match self.of_term(left) {
                 Ok(left) => match self.of_term(right) {
-                    Ok(right) => self.both(left, right),
+                    Ok(right) => self.and(left, right),
                     Err(Memory) => Err(Memory),
                 },
                 Err(Memory) => Err(Memory),
@@ -78,7 +82,8 @@ impl Store {
         }
     }
 
-    fn input(&mut self, n: u8) -> Result<Node, Memory>
+    /// A node that stands for the input. Nodes given before keep their meaning.
+    pub fn var(&mut self, n: u8) -> Result<Node, Memory>
         requires { n < 64 }
         ensures keeps { Keeps self.old self.new }
         ensures stands { IfOk result (IsFor self.new (bit n)) }
@@ -90,7 +95,8 @@ impl Store {
         })
     }
 
-    fn negation(&mut self, a: Node) -> Result<Node, Memory>
+    /// A node that is true where `a` is false. Nodes given before keep their meaning.
+    pub fn not(&mut self, a: Node) -> Result<Node, Memory>
         requires { IsNode self.old a }
         ensures keeps { Keeps self.old self.new }
         ensures stands { IfOk result (IsFor self.new (λ v. not (node_holds self.old a v))) }
@@ -102,7 +108,8 @@ impl Store {
         })
     }
 
-    fn both(&mut self, a: Node, b: Node) -> Result<Node, Memory>
+    /// A node that is true where both are. Nodes given before keep their meaning.
+    pub fn and(&mut self, a: Node, b: Node) -> Result<Node, Memory>
         requires first { IsNode self.old a }
         requires second { IsNode self.old b }
         ensures keeps { Keeps self.old self.new }
@@ -239,8 +246,45 @@ impl Store {
         Ok(node)
     }
 
-    // A node for the branch: the branch that is there already, a new one, or its child where both are the same.
+    // A node for the branch, whose least vector is kept.
     fn make(&mut self, branch: Branch) -> Result<Node, Memory>
+        requires variable { branch.variable < 64 }
+        requires low { IsAfter self.old branch.variable branch.low }
+        requires high { IsAfter self.old branch.variable branch.high }
+        ensures grows { Grows self.old self.new }
+        ensures was { IsDiagram self.old }
+        ensures diagram { IsDiagram self.new }
+        ensures made { IfOk result (IsMade self.new branch) }
+    {
+        match self.place(branch) {
+            Ok(node) => self.keep_least(node),
+            Err(Memory) => Err(Memory),
+        }
+    }
+
+    // Keeps the least vector of the node.
+    fn keep_least(&mut self, node: Node) -> Result<Node, Memory>
+        requires { IsNode self.old node }
+        ensures same { self.new ≡ self.old }
+        ensures node { IfOk result (λ kept. kept ≡ node) }
+    {
+        if self.leasts.contains_key(&node) {
+            return Ok(node);
+        }
+        let answer = self.least(node);
+        self.leasts.insert(node, answer)?;
+        Ok(node)
+    }
+
+    // The least vector that is kept for the node.
+    pub(crate) fn kept_least(&self, node: Node) -> Option<Option<u64>>
+        ensures { IfSome result (IsLeastOf self.now node) }
+    {
+        self.leasts.get(&node).copied()
+    }
+
+    // The branch that is there already, a new one, or its child where both are the same.
+    fn place(&mut self, branch: Branch) -> Result<Node, Memory>
         requires variable { branch.variable < 64 }
         requires low { IsAfter self.old branch.variable branch.low }
         requires high { IsAfter self.old branch.variable branch.high }

@@ -3,7 +3,7 @@ use Rattle.bool_bdd.proofs.store.Store.keep.Goals as goal
 
 pub invariant_of-self-2 : goal.invariant_of-self-2
 invariant_of-self-2 c =
-    store_keep c.self.inside.branches.keys _ _ c.args.asked c.args.node c.self.invariant (rw c.self.view_is c.requires)
+    store_keep c.self.inside.branches.keys _ _ _ c.args.asked c.args.node c.self.invariant (rw c.self.view_is c.requires)
     c.in_ok-insert.ensures.updates.0
 
 pub invariant_of-self : goal.invariant_of-self
