@@ -3,7 +3,8 @@ use Rattle.std.proofs.Common.{◌≡◌, ℕ, zero, suc, ◌+◌, ◌-◌, ◌<�
 use Rattle.std.proofs.Common.{length, Some, refl, sym, ap, ◌∙◌, arith, nat_eq}
 use Rattle.std.specs.Prelude.{slice_get}
 use Rattle.std.proofs.lemmas.Bool.{cases_lt}
-use Rattle.pbs_covers.specs.inner.Tables.{row_of, entry, at, step_covers}
+use Rattle.pbs_covers.specs.Grids.{row_of, entry, at}
+use Rattle.pbs_covers.specs.inner.Tables.{step_covers}
 use Rattle.pbs_covers.specs.declared.step.Step.{Step}
 use Rattle.pbs_covers.specs.declared.step.Step.TheVariants.{Empty, Terminal, Seq, Choice, Star, Hold, Scope}
 use Rattle.pbs_derive.proofs.Positions.{within_same}

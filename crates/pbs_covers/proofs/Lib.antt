@@ -1,2 +1,2 @@
-mod Grids
-mod Steps
+pub mod Grids
+pub mod Steps

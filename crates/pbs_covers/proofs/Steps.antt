@@ -8,7 +8,8 @@ use Rattle.bool_terms.specs.Terms.{Term, holds}
 use Rattle.pbs_ast.specs.Trees.{Tree, Spot}
 use Rattle.pbs_ast.specs.Trees as tree
 use Rattle.pbs_derive.specs.Derivations.{covers, alive, all_hold, repeats, some_within, some_after, first_after}
-use Rattle.pbs_covers.specs.inner.Tables.{result_map, result_map2, entry, at, joint, throughout, trips_at, aborted}
+use Rattle.pbs_covers.specs.Grids.{entry, at, joint, throughout, trips_at, aborted}
+use Rattle.pbs_covers.specs.inner.Tables.{result_map, result_map2}
 use Rattle.pbs_covers.specs.inner.Tables.{IsTables}
 use Rattle.pbs_covers.specs.inner.Tables.{IsStep, IsStepOk, terminal_step_of, seq_step_of, choice_step_of, star_step_of}
 use Rattle.pbs_covers.specs.inner.Tables.{hold_step_of, scope_step_of}

@@ -1,13 +1,13 @@
 // Tables of what is true of each stretch of a run.
 ghost use Rattle.std.specs.Prelude.{◌≡◌, ◌≤◌, ◌<◌, ◌^◌};
-ghost use Rattle.pbs_covers.specs.inner.Tables.{entry, at, joint, throughout, aborted};
+ghost use Rattle.pbs_covers.specs.Grids.{entry, at, joint, throughout, aborted};
 
 use pbs_base::Listed;
 
 /// For a run of n vectors: a row for each start, from n down, with an entry for each end.
-pub(crate) type Grid = Listed<Listed<bool>>;
+pub type Grid = Listed<Listed<bool>>;
 
-pub(crate) fn entry(row: &Listed<bool>, j: usize) -> bool
+pub fn entry(row: &Listed<bool>, j: usize) -> bool
     ensures { result ≡ entry row.now j }
 {
     match row.get(j) {
@@ -17,7 +17,7 @@ pub(crate) fn entry(row: &Listed<bool>, j: usize) -> bool
 }
 
 /// The entry of the stretch from `i` to `j`.
-pub(crate) fn at(grid: &Grid, n: usize, i: usize, j: usize) -> bool
+pub fn at(grid: &Grid, n: usize, i: usize, j: usize) -> bool
     requires { i ≤ n }
     ensures { result ≡ at n grid.now i j }
 {
@@ -28,7 +28,7 @@ pub(crate) fn at(grid: &Grid, n: usize, i: usize, j: usize) -> bool
 }
 
 /// Whether the left grid leads from `i` to some position from `k` on, and the right one from there to `j`.
-pub(crate) fn joint(left: &Grid, right: &Grid, n: usize, k: usize, i: usize, j: usize) -> bool
+pub fn joint(left: &Grid, right: &Grid, n: usize, k: usize, i: usize, j: usize) -> bool
     requires start { i ≤ n }
     requires end { j ≤ n }
     requires room { n < 2 ^ 62 }
@@ -43,7 +43,7 @@ pub(crate) fn joint(left: &Grid, right: &Grid, n: usize, k: usize, i: usize, j: 
 }
 
 /// Whether each of the entries from `i` up to `j` is true.
-pub(crate) fn throughout(truths: &Listed<bool>, i: usize, j: usize) -> bool
+pub fn throughout(truths: &Listed<bool>, i: usize, j: usize) -> bool
     ensures { result ≡ throughout truths.now i j }
 {
     for m in i..j {
@@ -56,7 +56,7 @@ pub(crate) fn throughout(truths: &Listed<bool>, i: usize, j: usize) -> bool
 
 /// What the body's grid tells where no position up to `j` is the abort position, and else what the after part's grid
 /// tells from the abort position on.
-pub(crate) fn aborted(
+pub fn aborted(
     trap: &Grid,
     alive: &Grid,
     body: &Grid,

@@ -1,8 +1,8 @@
 //! What main covers, by tables of its nodes over a whole run.
 #![tactic(auto)]
 
-mod grid;
+pub mod grid;
 mod step;
 mod tables;
 
-pub use tables::covers;
+pub use tables::{covers, truths};

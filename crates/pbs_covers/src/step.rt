@@ -1,6 +1,7 @@
 // The tables of one node, from those of its parts.
 ghost use Rattle.std.specs.Prelude.{◌≡◌, ◌≤◌, ◌<◌, ℕ, ◌^◌, IfOk};
-ghost use Rattle.pbs_covers.specs.inner.Tables.{entry, step_covers, step_alive, IsCovers, IsAlive, IsStep};
+ghost use Rattle.pbs_covers.specs.Grids.{entry};
+ghost use Rattle.pbs_covers.specs.inner.Tables.{step_covers, step_alive, IsCovers, IsAlive, IsStep};
 
 use crate::grid::{Grid, aborted, at, entry, joint, throughout};
 use pbs_base::{Listed, Memory};

@@ -15,7 +15,7 @@ use pbs_base::{Listed, Memory};
 use std::alloc::Global;
 
 /// The truth of the term in each vector.
-fn truths(alloc: Global, term: &Term, run: &[u64]) -> Result<Listed<bool>, Memory>
+pub fn truths(alloc: Global, term: &Term, run: &[u64]) -> Result<Listed<bool>, Memory>
     requires { IsTrue (term_inputs_below 64 (term_of term.now)) }
     ensures { IfOk result (λ truths. truths ≡ map (holds (term_of term.now)) run.now) }
 {

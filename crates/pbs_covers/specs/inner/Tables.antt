@@ -1,44 +1,12 @@
 -- Tables of what a tree covers and where it is alive, for a run of n vectors.
-use Rattle.std.specs.Prelude.{◌≡◌, ℕ, ◌+◌, ◌-◌, ◌≤◌, Bool, false, not, ◌&&◌, ◌||◌, nat_eq, nat_le, List, [], length}
-use Rattle.std.specs.Prelude.{Option, Some, None, slice_get, Result, Ok, Err}
+use Rattle.std.specs.Prelude.{◌≡◌, ℕ, ◌+◌, ◌≤◌, Bool, false, ◌&&◌, ◌||◌, nat_eq, List, length, Result, Ok, Err}
 use Rattle.pbs_base.specs.declared.fail.Memory.{Memory}
 use Rattle.pbs_ast.specs.Trees.{Tree}
-use Rattle.pbs_derive.specs.Derivations.{covers, alive, some_below, some_within, some_after, first_after}
+use Rattle.pbs_derive.specs.Derivations.{covers, alive}
+use Rattle.pbs_covers.specs.Grids.{entry, at, joint, throughout, aborted}
 use Rattle.pbs_covers.specs.declared.step.Tables.{Tables}
 use Rattle.pbs_covers.specs.declared.step.Step.{Step}
 use Rattle.pbs_covers.specs.declared.step.Step.TheVariants.{Empty, Terminal, Seq, Choice, Star, Hold, Scope}
-
-abbrev pub value_of : Option Bool → Bool
-value_of None = false
-value_of (Some b) = b
-
-abbrev pub row_of : Option (List Bool) → List Bool
-row_of None = []
-row_of (Some row) = row
-
--- entry j of a row
-abbrev pub entry : List Bool → ℕ → Bool
-entry row j = value_of (slice_get row j)
-
--- the entry for the stretch [i,j): the rows go from start n down
-abbrev pub at : ℕ → List (List Bool) → ℕ → ℕ → Bool
-at n grid i j = entry (row_of (slice_get grid (n - i))) j
-
--- the left grid leads from i to some m from k on, and the right one from there to j
-abbrev pub joint : ℕ → List (List Bool) → List (List Bool) → ℕ → ℕ → ℕ → Bool
-joint n left right k i j = some_within k j (λ m. at n left i m && at n right m j)
-
-abbrev pub throughout : List Bool → ℕ → ℕ → Bool
-throughout truths i j = not (some_below j (λ m. nat_le i m && not (entry truths m)))
-
-abbrev pub trips_at : ℕ → List (List Bool) → List (List Bool) → ℕ → ℕ → Bool
-trips_at n trap alive i m = at n trap i m && at n alive i (m - 1)
-
--- the body's grid while nothing has tripped, and from the abort position on the after part's
-abbrev pub aborted : ℕ → List (List Bool) → List (List Bool) → List (List Bool) → List (List Bool) → ℕ → ℕ → Bool
-aborted n trap alive body then i j =
-    (not (some_after i j (trips_at n trap alive i)) && at n body i j) || first_after i j (trips_at n trap alive i)
-    (λ m. at n then m j)
 
 -- what a node covers, from the tables of its parts and its own rows of later starts
 abbrev pub step_covers : Step → ℕ → List (List Bool) → ℕ → ℕ → Bool

@@ -1,6 +1,6 @@
 use Rattle.std.proofs.Common.{sym, arith, ◌∙◌}
 use Rattle.std.proofs.lemmas.Bool.{and_from, both_ways}
-use Rattle.pbs_covers.specs.inner.Tables.{at, trips_at}
+use Rattle.pbs_covers.specs.Grids.{at, trips_at}
 use Rattle.pbs_derive.proofs.Positions.{tripped, untripped}
 use Rattle.pbs_covers.proofs.grid.aborted.Goals as goal
 

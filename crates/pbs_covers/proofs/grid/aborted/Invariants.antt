@@ -1,5 +1,5 @@
 use Rattle.std.proofs.Common.{◌≡◌, ◌<◌, ℕ, false}
-use Rattle.pbs_covers.specs.inner.Tables.{trips_at}
+use Rattle.pbs_covers.specs.Grids.{trips_at}
 use Rattle.pbs_covers.proofs.grid.aborted.Given as goal
 
 abbrev pub invariant-loop-m : goal.invariant-loop-m

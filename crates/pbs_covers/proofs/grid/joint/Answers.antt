@@ -1,6 +1,6 @@
 use Rattle.std.proofs.Common.{sym, arith, ◌&&◌, ◌∙◌}
 use Rattle.std.proofs.lemmas.Bool.{and_from}
-use Rattle.pbs_covers.specs.inner.Tables.{at}
+use Rattle.pbs_covers.specs.Grids.{at}
 use Rattle.pbs_derive.proofs.Positions.{within_from, none_within}
 use Rattle.pbs_covers.proofs.grid.joint.Goals as goal
 

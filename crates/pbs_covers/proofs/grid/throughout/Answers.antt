@@ -1,6 +1,6 @@
 use Rattle.std.proofs.Common.{sym, arith, ◌∙◌}
 use Rattle.std.proofs.lemmas.Bool.{both_ways}
-use Rattle.pbs_covers.specs.inner.Tables.{entry}
+use Rattle.pbs_covers.specs.Grids.{entry}
 use Rattle.pbs_derive.proofs.Positions.{false_from, each_to, each_from}
 use Rattle.pbs_covers.proofs.grid.throughout.Goals as goal
 

@@ -1,5 +1,5 @@
 use Rattle.std.proofs.Common.{◌≡◌, ◌≤◌, ◌<◌, ℕ, true}
-use Rattle.pbs_covers.specs.inner.Tables.{entry}
+use Rattle.pbs_covers.specs.Grids.{entry}
 use Rattle.pbs_covers.proofs.grid.throughout.Given as goal
 
 abbrev pub invariant-loop-m : goal.invariant-loop-m

@@ -1,5 +1,6 @@
 use Rattle.std.proofs.Common.{◌≡◌, ◌+◌, ◌≤◌, ◌<◌, ℕ, length}
-use Rattle.pbs_covers.specs.inner.Tables.{at, step_alive}
+use Rattle.pbs_covers.specs.Grids.{at}
+use Rattle.pbs_covers.specs.inner.Tables.{step_alive}
 use Rattle.pbs_covers.proofs.step.alive_grid.Given as goal
 
 abbrev pub invariant-loop-back : goal.invariant-loop-back

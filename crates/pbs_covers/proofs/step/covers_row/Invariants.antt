@@ -1,5 +1,6 @@
 use Rattle.std.proofs.Common.{◌≡◌, ◌≤◌, ◌<◌, ℕ, length}
-use Rattle.pbs_covers.specs.inner.Tables.{entry, step_covers}
+use Rattle.pbs_covers.specs.Grids.{entry}
+use Rattle.pbs_covers.specs.inner.Tables.{step_covers}
 use Rattle.pbs_covers.proofs.step.covers_row.Given as goal
 
 abbrev pub invariant-loop-j : goal.invariant-loop-j
