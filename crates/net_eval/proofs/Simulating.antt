@@ -38,7 +38,14 @@ stands_at v old new reset vector steps begins =
     λ rows z.
     (one_assignment_each net steps.circuit).same made (rows (length v)) steps.row
     (z.run.each (length v) (omega arith)) (begins rows z) in
-    subst (λ (net' : Circuit). StandsAfter v (record { net = net'; registers = new.registers; gates = new.gates }))
+    subst (λ (net' : Circuit). StandsAfter v (record {
+      net = net';
+      registers = new.registers;
+      gates = new.gates;
+      begun = new.begun;
+      last = new.last;
+      evaluated = new.evaluated;
+    }))
     (sym steps.net)
     (record {
       gates = λ rows z n h. (same rows z).gates n h;
@@ -58,7 +65,7 @@ stands_first old new fresh steps =
     })
 
 -- the first entries of a zero run are a zero run
-front_run : (net : Circuit) (v : List Entry) (e : Entry) (rows : ℕ → Row) → IsZeroRun net (v ++ e ∷ []) rows
+pub front_run : (net : Circuit) (v : List Entry) (e : Entry) (rows : ℕ → Row) → IsZeroRun net (v ++ e ∷ []) rows
     → IsZeroRun net v rows
 front_run net v e rows z =
     let longer = length_pushed v e in

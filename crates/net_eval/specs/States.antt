@@ -4,21 +4,34 @@ use Rattle.net_core.specs.Rows.{Row, IsRow}
 use Rattle.net_core.specs.Circuits.{Circuit, IsCircuit}
 use Rattle.net_core.specs.Runs.{next_of}
 use Rattle.net_eval.specs.declared.gates.Begun.{Begun}
+use Rattle.net_eval.specs.declared.sim.Past.{Past}
 
--- the netlist, the registers after the last row, and the gates in it
+-- what a row begins with
+pub record Start : Type 0 where
+  pub registers : List Bool
+  pub reset : Bool
+  pub inputs : ℕ
+
+-- the netlist, the registers after the last row, and the gates in it; whether there was a row, what the last one began
+-- with, and how many gates were evaluated in it
 pub record State : Type 0 where
   pub net : Circuit
   pub registers : List Bool
   pub gates : List Bool
+  pub begun : Bool
+  pub last : Start
+  pub evaluated : ℕ
 
-abbrev pub state_of : Circuit → List Bool → List Bool → State
-state_of net registers gates = record { net = net; registers = registers; gates = gates }
-
-pub record IsState (s : State) (spare : ℕ) : Type 0 where
-  pub circuit : IsCircuit s.net
-  pub registers_long : length s.registers ≡ length s.net.registers
-  pub spare_long : spare ≡ length s.net.registers
-  pub gates_long : length s.gates ≡ length s.net.gates
+-- what the arrays of a simulator say, where the last row began with these registers
+abbrev pub state_of : Circuit → List Bool → List Bool → List Bool → Past → ℕ → State
+state_of net registers gates before past evaluated = record {
+  net = net;
+  registers = registers;
+  gates = gates;
+  begun = past.begun;
+  last = record { registers = before; reset = past.reset; inputs = past.inputs };
+  evaluated = evaluated;
+}
 
 -- the row with these values of registers and gates
 abbrev pub row_of : List Bool → Bool → ℕ → List Bool → Row
@@ -31,6 +44,10 @@ row_of registers reset vector gates = record {
 
 abbrev pub begun_row : Begun → List Bool → Row
 begun_row begun gates = row_of begun.registers.now begun.reset begun.inputs gates
+
+-- the last row
+abbrev pub last_row : State → Row
+last_row s = row_of s.last.registers s.last.reset s.last.inputs s.gates
 
 -- no row was made yet
 pub record IsFresh (s : State) : Type 0 where

@@ -1,11 +1,12 @@
 // The values of wires and of gates, and of all gates in order.
-ghost use Rattle.std.specs.Prelude.{◌≡◌, length};
-ghost use Rattle.net_core.specs.Rows.{IsRow, all_of, any_of, gate_value, odd_of, value};
-ghost use Rattle.net_core.specs.Circuits.{AllThere, IsThere};
-ghost use Rattle.net_eval.specs.Assignments.{IsOrdered};
+ghost use Rattle.std.specs.Prelude.{◌≡◌, ◌<◌, length, slice_get, Some};
+ghost use Rattle.net_core.specs.declared.gate.Gate.{Gate as GateValue};
+ghost use Rattle.net_core.specs.Rows.{IsRow, all_of, any_of, gate_value, odd_of, output_of, value};
+ghost use Rattle.net_core.specs.Circuits.{AllThere, IsCircuit, IsThere};
 ghost use Rattle.net_eval.specs.States.{begun_row};
 
-use net_core::{Gate, GateKind, Wire};
+use crate::flat::FlatNetlist;
+use net_core::{GateKind, Wire};
 
 /// What a row begins with.
 #[derive(Clone, Copy)]
@@ -66,12 +67,12 @@ fn odd_are(pins: &[Wire], row: &Begun, gates: &[bool]) -> bool
     odd
 }
 
-fn gate_output(gate: &Gate, row: &Begun, gates: &[bool]) -> bool
-    requires { AllThere 64 (length row.now.registers.now) (length gates.now) gate.now.pins }
-    ensures { result ≡ gate_value (begun_row row.now gates.now) gate.now }
+// What a gate of this kind makes of its pins.
+fn gate_output(kind: GateKind, pins: &[Wire], row: &Begun, gates: &[bool]) -> bool
+    requires { AllThere 64 (length row.now.registers.now) (length gates.now) pins.now }
+    ensures { result ≡ output_of (begun_row row.now gates.now) kind pins.now }
 {
-    let pins = gate.pins.as_slice();
-    match gate.kind {
+    match kind {
         GateKind::Buf => all_are(pins, row, gates),
         GateKind::Not => !all_are(pins, row, gates),
         GateKind::And => all_are(pins, row, gates),
@@ -83,14 +84,27 @@ fn gate_output(gate: &Gate, row: &Begun, gates: &[bool]) -> bool
     }
 }
 
-/// The values of all gates, which make the row.
-pub(crate) fn settle(net: &[Gate], row: &Begun, gates: &mut [bool])
-    requires ordered { IsOrdered 64 (length row.now.registers.now) net.now }
-    requires long { length gates.old ≡ length net.now }
-    ensures { IsRow net.now (begun_row row.now gates.new) }
+/// The value of gate n.
+pub(crate) fn gate_now(net: &FlatNetlist, row: &Begun, gates: &[bool], n: usize) -> bool
+    requires circuit { IsCircuit net.now }
+    requires registers { length row.now.registers.now ≡ length net.now.registers }
+    requires gates { length gates.now ≡ length net.now.gates }
+    requires there { n < length net.now.gates }
+    ensures { (g : GateValue) → slice_get net.now.gates n ≡ Some g
+        → result ≡ gate_value (begun_row row.now gates.now) g }
 {
-    for n in 0..net.len() {
-        let output = gate_output(&net[n], row, gates);
+    gate_output(net.kind(n), net.pins(n), row, gates)
+}
+
+/// The values of all gates, which make the row.
+pub(crate) fn settle(net: &FlatNetlist, row: &Begun, gates: &mut [bool])
+    requires circuit { IsCircuit net.now }
+    requires registers { length row.now.registers.now ≡ length net.now.registers }
+    requires gates { length gates.old ≡ length net.now.gates }
+    ensures { IsRow net.now.gates (begun_row row.now gates.new) }
+{
+    for n in 0..gates.len() {
+        let output = gate_now(net, row, gates, n);
         gates[n] = output;
     }
 }

@@ -143,7 +143,8 @@ all_shown net before now text entries more runs traced shown =
       });
     }
 
-pub nothing_written : (net : Circuit) (sink : SinkState) (text : List ℕ) → CutShort (lines_of (NetGives net text)) sink sink
+pub nothing_written : (net : Circuit) (sink : SinkState) (text : List ℕ)
+    → CutShort (lines_of (NetGives net text)) sink sink
 nothing_written net sink text = record { front = []; written = sym (append_known-nil sink.written); begins = inl refl }
 
 -- ---- where reading stops
