@@ -1,6 +1,7 @@
 -- The circuits of levels, from the steps of the builder.
 use Rattle.std.proofs.Common.{◌≡◌, ℕ, zero, suc, ◌+◌, ◌*◌, ◌<◌, ◌≤◌, false, inl, inr}
-use Rattle.std.proofs.Common.{List, [], ◌∷◌, ◌++◌, length, take, refl, sym, ap, ◌∙◌, subst, arith, length-append, append_assoc}
+use Rattle.std.proofs.Common.{List, [], ◌∷◌, ◌++◌, length, take, refl, sym, ap, ◌∙◌, subst, arith, length-append}
+use Rattle.std.proofs.Common.{append_assoc}
 use Rattle.std.specs.Prelude.{slice_get, slice_set, Some}
 use Rattle.std.proofs.lemmas.List.{get_or_append_left, take_more}
 use Rattle.std.proofs.Math.Seq.{get_or-append_seam}
@@ -93,7 +94,8 @@ module _ (old made built : Circuit) (level : PlanLevel) (fires : List Wire) (kep
         keeps = keeps;
         inputs = set.inputs ∙ begun.inputs;
         outputs = set.outputs ∙ begun.outputs;
-        registers = ap (λ ws. slice_set ws (length old.registers) wire) unbound ∙ set_last old.registers (Const false) wire;
+        registers = ap (λ ws. slice_set ws (length old.registers) wire) unbound
+            ∙ set_last old.registers (Const false) wire;
         few = let p = begun.most in let q = set.most in omega (arith, few, p, q);
         few_each = let p = begun.most in let q = set.most in omega (arith, each, p, q);
         few_pins = let p = begun.few_pins in let q = set.few_pins in omega (arith, p, q);

@@ -1,5 +1,5 @@
 // The gates and the register of each level.
-ghost use Rattle.std.specs.Prelude.{◌≡◌, ◌+◌, ◌*◌, ◌<◌, ◌≤◌, length, IfOk, OnOk};
+ghost use Rattle.std.specs.Prelude.{◌≡◌, ◌*◌, length, IfOk, OnOk};
 ghost use Rattle.net_core.specs.Rows.{value};
 ghost use Rattle.net_core.specs.Circuits.{Circuit, Exists, wire_at};
 ghost use Rattle.net_core.specs.Building.{Extends, Keeps, Means, input_pin, input_pins};

@@ -7,10 +7,6 @@ use Rattle.net_core.specs.Circuits.{Circuit}
 use Rattle.net_core.specs.Building.{with_data}
 use Rattle.frag_compose.specs.inner.Gains.{with_registers}
 
-pub replicate_end : {X : Type 0} (n : ℕ) (x : X) → replicate n x ++ x ∷ [] ≡ replicate (suc n) x
-replicate_end zero x = refl
-replicate_end (suc n) x = ap (λ xs. x ∷ xs) (replicate_end n x)
-
 pub bound_at : {X : Type 0} (ws : List X) (p k : ℕ) (d z : X) → p < length ws
     → slice_set (take p ws ++ replicate (suc k) z) p (get_or ws p d) ≡ take (suc p) ws ++ replicate k z
 bound_at [] p k d z h = absurd (omega arith)

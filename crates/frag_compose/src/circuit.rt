@@ -12,7 +12,7 @@ ghost use Rattle.frag_compose.specs.inner.Gains.{ReachesAll, with_registers};
 use crate::descend::descend;
 use crate::rise::rise;
 use net_core::{Builder, Code, Literal, Literals, StateMap, Wire, Wires};
-use pbs_ast::{Main, Tree, TreeKind};
+use pbs_ast::{Main, Tree};
 use pbs_base::Memory;
 use pbs_machine::controller_is_right;
 use std::alloc::Global;
@@ -37,24 +37,10 @@ pub fn compose(b: &mut Builder, main: &Main, actions: u8) -> Result<Composed, Me
 {
     controller_is_right();
     let alloc = b.allocator();
-    let places = count_places(&main.tree);
+    let places = main.tree.count_places();
     let map = own_registers(alloc, places)?;
     let fires = add_circuit(b, &main.tree, places, actions as usize)?;
     Ok(Composed { fires, map })
-}
-
-// How many places the tree has.
-fn count_places(tree: &Tree) -> usize
-    requires { place_count (tree_of tree.now) ≤ 4096 }
-    ensures { result ≡ place_count (tree_of tree.now) }
-{
-    match &tree.kind {
-        TreeKind::Empty | TreeKind::Action(_) => 0,
-        TreeKind::Terminal(_, _) => 1,
-        TreeKind::Seq(e, f) | TreeKind::Choice(e, f) => count_places(e) + count_places(f),
-        TreeKind::Star(e) | TreeKind::Hold(_, e) => count_places(e),
-        TreeKind::Scope(_, e, x, h) => count_places(e) + count_places(x) + count_places(h),
-    }
 }
 
 // Each place is told by the register of its number.

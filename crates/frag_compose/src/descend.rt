@@ -1,5 +1,5 @@
 // From the root down: the wires with which the leaves are begun, from the plan.
-ghost use Rattle.std.specs.Prelude.{◌≡◌, ◌*◌, ◌<◌, ◌&&◌, ◌||◌, nat_eq, length, IfOk, OnOk};
+ghost use Rattle.std.specs.Prelude.{◌*◌, ◌<◌, ◌&&◌, ◌||◌, nat_eq, length, IfOk, OnOk};
 ghost use Rattle.pbs_machine.specs.Rows.{body_start, right_start};
 ghost use Rattle.net_core.specs.Rows.{value};
 ghost use Rattle.net_core.specs.Building.{Extends, HasAll, Means};

@@ -9,6 +9,6 @@ pub mod laws;
 mod netlist;
 
 pub use builder::Builder;
-pub use codes::{Code, Literal, Literals, StateMap};
+pub use codes::{Code, CodePlan, GroupList, Literal, Literals, Places, StateMap};
 pub use gate::{Gate, GateKind, Gates, Pins, Wire, Wires};
 pub use netlist::{Netlist, Output, Outputs};

@@ -214,14 +214,3 @@ led_read pairs all n never leaders firsts seen own k l old stands e at read =
     let same : l ≡ slice_index firsts k = read ∙ get_or_default_zero firsts k l within in
     subst (λ x. AreLed pairs all (n + 1) never (leaders ++ x ∷ []) firsts seen) (sym same)
     (led_known pairs all n never leaders firsts seen old stands k there)
-
-pub led_none : (pairs : Pairs) (all : List (List ℕ)) → AreLed pairs all 0 [] [] [] []
-led_none pairs all = record {
-  never_are = λ p. (λ c. absurd (let l = c.1 in omega arith), λ w. absurd (let l = w.0 in omega arith));
-  never_rise = λ k l. absurd (omega arith);
-  each = refl;
-  lead = λ p l. absurd (omega arith);
-  firsts_are = λ p. (λ c. absurd (let l = c.1 in omega arith), λ w. absurd (let l = w.0 in omega arith));
-  firsts_rise = λ k l. absurd (omega arith);
-  seen_are = refl;
-}

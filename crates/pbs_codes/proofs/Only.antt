@@ -10,8 +10,9 @@ use Rattle.pbs_edges.proofs.Listed.{OneOf}
 use Rattle.pbs_edges.proofs.Sorted.{contains_from, contains_to}
 use Rattle.pbs_codes.specs.Groups.{Joins, makes, goes, passes, Grouped, none_taken, taken}
 use Rattle.pbs_codes.specs.Twins.{IsLeaderOf}
-use Rattle.pbs_codes.specs.Plans.{IsCodePlan, leader_of}
-use Rattle.pbs_codes.specs.declared.code_plan.CodePlan.{CodePlan}
+use Rattle.net_core.specs.Plans.{leader_of}
+use Rattle.pbs_codes.specs.Plans.{IsCodePlan}
+use Rattle.net_core.specs.declared.codes.CodePlan.{CodePlan}
 use Rattle.pbs_codes.proofs.Once.{above_first, increasing_rest}
 use Rattle.pbs_codes.proofs.Wholes.{same_lowest}
 

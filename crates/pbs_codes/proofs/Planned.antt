@@ -22,7 +22,7 @@ use Rattle.pbs_codes.specs.Groups.{Grouped}
 use Rattle.pbs_codes.specs.inner.Signatures.{AreSignatures, is_start, sources, signature}
 use Rattle.pbs_codes.specs.inner.Leading.{may_stand, signature_at, IsLowestLike, Leads, AreLed}
 use Rattle.pbs_codes.specs.Plans.{IsCodePlan}
-use Rattle.pbs_codes.specs.declared.code_plan.CodePlan.{CodePlan}
+use Rattle.net_core.specs.declared.codes.CodePlan.{CodePlan}
 use Rattle.pbs_codes.proofs.Sources.{pair_from, pair_to, edges_rise, sources_rise, same_pairs, start_to, start_from}
 use Rattle.pbs_codes.proofs.Sources.{HasPair, starts_same, sources_same, signature_same}
 

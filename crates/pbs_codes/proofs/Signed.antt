@@ -83,13 +83,3 @@ signatures_more starts edges places i all d l e within old =
             ∙ append-nil (signature starts (take i edges) p))))
       ];
     }
-
--- with no edges
-pub signatures_begun : (starts : List ℕ) (places : ℕ) (flags : List Bool) (all : List (List ℕ)) → length flags ≡ places
-    → ((p : ℕ) → p < places → get_or flags p false ≡ is_start starts p) → length all ≡ length flags
-    → ((p : ℕ) → p < length flags → get_or all p [] ≡ start_number (get_or flags p false))
-    → AreSignatures starts [] places all
-signatures_begun starts places flags all size flag count each = record {
-  size = count ∙ size;
-  each = λ p less. each p (omega (arith, size)) ∙ ap start_number (flag p less);
-}

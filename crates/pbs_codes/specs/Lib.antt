@@ -3,3 +3,4 @@ pub mod Groups
 pub mod Plans
 pub mod inner
 pub mod Runs
+pub mod Sharing

@@ -1,13 +1,12 @@
 // How leaders are put into groups.
-ghost use Rattle.std.specs.Prelude.{◌≡◌, ◌<◌, ◌∷◌, [], ℕ, Contains, IfOk, OnOk};
+ghost use Rattle.std.specs.Prelude.{◌≡◌, ◌<◌, ℕ, Contains, IfOk, OnOk};
 ghost use Rattle.pbs_ast.specs.Trees.{Tree};
 ghost use Rattle.pbs_overlap.specs.Told.{TellsTogether};
 ghost use Rattle.pbs_codes.specs.Groups.{Grouped, Joins};
 ghost use Rattle.pbs_codes.specs.inner.Rooms.{AreWithin, IsFirstRoom, has_room, meets};
 
-use crate::code_plan::GroupList;
+use net_core::{GroupList, Places};
 use pbs_base::{Listed, Memory};
-use pbs_edges::Places;
 use pbs_overlap::Pairs;
 use std::alloc::Global;
 

@@ -6,9 +6,10 @@ ghost use Rattle.pbs_ast.specs.Sound.{IsSound};
 ghost use Rattle.pbs_derive.specs.Derivations.{stands};
 ghost use Rattle.pbs_edges.specs.Walks.{BreaksNoScope};
 ghost use Rattle.pbs_codes.specs.Twins.{AreTwins, HasEdge, IsNever};
-ghost use Rattle.pbs_codes.specs.Plans.{IsCodePlan, IsWhole};
+ghost use Rattle.net_core.specs.Plans.{IsWhole};
+ghost use Rattle.pbs_codes.specs.Plans.{IsCodePlan};
 ghost use Rattle.pbs_codes.specs.Runs.{FitsRuns, IsTaken};
-ghost use Rattle.pbs_codes.specs.declared.code_plan.CodePlan.{CodePlan};
+ghost use Rattle.net_core.specs.declared.codes.CodePlan.{CodePlan};
 
 /// Behind a vector a place stands exactly where an edge to it is taken, and whether one is depends on the place that it
 /// leaves, its node and the run, and not on the place that it leads to. So twins stand at the same positions.

@@ -1,36 +1,22 @@
 // The plan of codes of main.
-ghost use Rattle.std.specs.Prelude.{◌≡◌, ◌≤◌, IfOk};
+ghost use Rattle.std.specs.Prelude.{◌≡◌, IfOk};
 ghost use Rattle.pbs_ast.specs.Trees.{tree_of};
-ghost use Rattle.pbs_ast.specs.Sound.{place_count};
 ghost use Rattle.pbs_edges.specs.Found.{AreEdges};
 ghost use Rattle.pbs_edges.specs.Walks.{BreaksNoScope};
 ghost use Rattle.pbs_overlap.specs.Told.{TellsTogether};
-ghost use Rattle.pbs_codes.specs.Plans.{IsCodePlan, IsWhole};
+ghost use Rattle.net_core.specs.Plans.{IsWhole};
+ghost use Rattle.pbs_codes.specs.Plans.{IsCodePlan};
 ghost use Rattle.pbs_codes.specs.Runs.{FitsRuns};
 
-use crate::code_plan::CodePlan;
 use crate::grouping::group_all;
 use crate::leading::find_leaders;
 use crate::signing::signatures;
-use pbs_ast::{Main, Tree, TreeKind};
+use net_core::{CodePlan, Places};
+use pbs_ast::Main;
 use pbs_base::{Listed, Memory};
-use pbs_edges::{Edges, Places};
+use pbs_edges::Edges;
 use pbs_overlap::Pairs;
 use std::alloc::Global;
-
-// How many places the tree has.
-fn count_places(tree: &Tree) -> usize
-    requires { place_count (tree_of tree.now) ≤ 4096 }
-    ensures { result ≡ place_count (tree_of tree.now) }
-{
-    match &tree.kind {
-        TreeKind::Empty | TreeKind::Action(_) => 0,
-        TreeKind::Terminal(_, _) => 1,
-        TreeKind::Seq(e, f) | TreeKind::Choice(e, f) => count_places(e) + count_places(f),
-        TreeKind::Star(e) | TreeKind::Hold(_, e) => count_places(e),
-        TreeKind::Scope(_, e, x, h) => count_places(e) + count_places(x) + count_places(h),
-    }
-}
 
 // The places as a list.
 fn listed(alloc: Global, places: &[u32]) -> Result<Places, Memory>
@@ -43,8 +29,8 @@ fn listed(alloc: Global, places: &[u32]) -> Result<Places, Memory>
     Ok(list)
 }
 
-/// The plan of codes of main: its never places, the leader of each place, and the groups of leaders. In every run it
-/// tells places apart that stand together.
+/// The plan of codes of main: its never places, the leader of each place, and the groups of leaders. In every run twins
+/// stand together, and no two leaders of a group do.
 pub fn plan(alloc: Global, main: &Main, edges: &Edges, pairs: &Pairs) -> Result<CodePlan, Memory>
     requires edges { AreEdges (tree_of main.now.tree) edges.now }
     requires pairs { TellsTogether (tree_of main.now.tree) pairs.now }
@@ -53,7 +39,7 @@ pub fn plan(alloc: Global, main: &Main, edges: &Edges, pairs: &Pairs) -> Result<
     ensures runs { IfOk result (FitsRuns (tree_of main.now.tree)) }
     ensures whole { IfOk result (λ plan. IsWhole plan) }
 {
-    let places = count_places(&main.tree);
+    let places = main.tree.count_places();
     let starts = edges.starts.as_slice();
     let signatures = signatures(alloc, places, starts, edges.follows.as_slice())?;
     let leading = find_leaders(alloc, pairs, &signatures)?;

@@ -1,5 +1,5 @@
 // The signatures of the places of a tree.
-ghost use Rattle.std.specs.Prelude.{◌≡◌, ◌<◌, ◌≤◌, ℕ, [], length, slice_index, slice_index_or, Contains, IfOk, false};
+ghost use Rattle.std.specs.Prelude.{◌≡◌, ◌<◌, ℕ, [], length, slice_index_or, Contains, IfOk, false};
 ghost use Rattle.pbs_codes.specs.inner.Signatures.{AreSignatures, is_start, start_number};
 ghost use Rattle.pbs_edges.specs.declared.edge.Edge.{Edge};
 

@@ -95,7 +95,7 @@ module _ (decide : FiresDecide) (main : Tree) (m : ℕ) (plan : List PlanLevel) 
     level_follows k le l level at = (built.level_runs net built.keeps).at_row v rows run k le l level at
 
     shows_levels : (k : ℕ) → k ≤ length v → ((j : ℕ) → j ≤ k → FollowsRow net fires main m v rows j)
-        → ShowsLevels net main m plan v rows k
+        → ShowsLevels net main (place_count main) m plan v rows k
     shows_levels k le follows = record {
       registers = λ l level at.
           ap (λ p. value (rows k) (wire_at net.registers (p + l))) (sym built.circuit.places)

@@ -12,7 +12,7 @@ use Rattle.net_core.specs.Runs.{IsRun, next_of, output_value}
 use Rattle.act_schedule.specs.declared.plan.PlanLevel.{PlanLevel}
 use Rattle.act_schedule.specs.Levels.{level_value}
 use Rattle.act_schedule.specs.Circuits.{level_units}
-use Rattle.pbs_controller.specs.Outputs.{AreUnread}
+use Rattle.net_core.specs.Unread.{AreUnread}
 use Rattle.pbs_controller.specs.Ports.{ports_of, output_ports}
 
 -- action a fires in row k: a derivation of main over the vectors since the last reset ends at it
@@ -26,12 +26,12 @@ pub record ShowsRow (net : Circuit) (main : Tree) (m : ℕ) (v : List Entry) (ro
       → next_of net (rows k) p ≡ stands main (since v k) 0 (length (since v k)) p
   pub outputs : (a : ℕ) → a < m → output_value net (rows k) a ≡ row_fires main v k a
 
--- behind the registers of places and the outputs of the m actions stand those of levels: each has the level's value
+-- levels have the registers from this one on, and the outputs behind those of the m actions: each has the level's value
 -- after row k, the register after the row and the output in it
-pub record ShowsLevels (net : Circuit) (main : Tree) (m : ℕ) (plan : List PlanLevel) (v : List Entry) (rows : ℕ → Row)
-    (k : ℕ) : Type 0 where
+pub record ShowsLevels (net : Circuit) (main : Tree) (first m : ℕ) (plan : List PlanLevel) (v : List Entry)
+    (rows : ℕ → Row) (k : ℕ) : Type 0 where
   pub registers : (l : ℕ) (level : PlanLevel) → slice_get plan l ≡ Some level
-      → next_of net (rows k) (place_count main + l) ≡ level_value level m v (row_fires main v) k
+      → next_of net (rows k) (first + l) ≡ level_value level m v (row_fires main v) k
   pub outputs : (l : ℕ) (level : PlanLevel) → slice_get plan l ≡ Some level
       → output_value net (rows k) (m + l) ≡ level_value level m v (row_fires main v) k
 
@@ -69,4 +69,4 @@ pub record IsController (inputs actions levels : List (List ℕ)) (plan : List P
   pub shows : (v : List Entry) (rows : ℕ → Row) → IsRun net v rows → (k : ℕ) → k ≤ length v
       → NoOverlapBelow main (since v k) (length (since v k)) → ShowsRow net main (length actions) v rows k
   pub shows_levels : (v : List Entry) (rows : ℕ → Row) → IsRun net v rows → (k : ℕ) → k ≤ length v
-      → ApartUntil main v k → ShowsLevels net main (length actions) plan v rows k
+      → ApartUntil main v k → ShowsLevels net main (place_count main) (length actions) plan v rows k

@@ -35,15 +35,6 @@ means_more w x t u both m e f inputs = record {
       (and_from (term_inputs_below 64 (term_of t)) (term_inputs_below 64 (term_of u)) m.inputs inputs);
 }
 
--- no term
-pub means_none : (t : declared.Term) → term_of t ≡ Const true → Means [] t
-means_none t e = record {
-  terms = [];
-  code = refl;
-  truth = λ v. ap (λ s. holds s v) e;
-  inputs = subst (λ s. IsTrue (term_inputs_below 64 s)) (sym e) refl;
-}
-
 pub all_mean-push : (ws : List (List ℕ)) (ts : List declared.Term) (w : List ℕ) (t : declared.Term) → AllMean ws ts
     → Means w t → AllMean (ws ++ w ∷ []) (ts ++ t ∷ [])
 all_mean-push [] [] w t h m = (m, tt)
@@ -65,10 +56,6 @@ pub get-append : {A : Type 0} (xs ys : List A) (n : ℕ) (x : A) → slice_get x
 get-append [] ys n x h = absurd (cc)
 get-append (y ∷ xs) ys zero x h = h
 get-append (y ∷ xs) ys (suc n) x h = get-append xs ys n x h
-
-pub get-last : {A : Type 0} (xs : List A) (x : A) → slice_get (xs ++ x ∷ []) (length xs) ≡ Some x
-get-last [] x = refl
-get-last (y ∷ xs) x = get-last xs x
 
 numbers-more : (ws vs : List (List ℕ)) (front : List ℕ) (ns : List ℕ) (tss : List (List Term))
     → AreNumbers ws front ns tss → AreNumbers (ws ++ vs) front ns tss

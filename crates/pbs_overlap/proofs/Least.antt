@@ -9,12 +9,6 @@ use Rattle.pbs_overlap.specs.inner.Steps.{refused_scope, region_refused}
 use Rattle.pbs_overlap.specs.inner.Search.{Between, marked_at, fit_at, step_at}
 use Rattle.pbs_overlap.specs.inner.Lowest.{lower_of, IsLowest, RefusesWith}
 
-pub lowest_none : (P : ℕ → Type 0) → ((s : ℕ) → P s → ⊥) → IsLowest P None
-lowest_none P none = record {
-  found = λ t e. absurd (cc);
-  least = λ s h. absurd (none s h);
-}
-
 -- the numbers that equal a given one, if any
 pub lowest_one : (o : Option ℕ) → IsLowest (λ s. o ≡ Some s) o
 lowest_one o = record {

@@ -10,22 +10,10 @@ use Rattle.pbs_overlap.specs.declared.search.Reached.{Reached}
 use Rattle.pbs_overlap.specs.inner.Search.{IsWork, Visits, Between, Marked, Leads, IsStart, reach_start, reach_next}
 use Rattle.pbs_overlap.specs.inner.Search.{Searching, Searched}
 
-count-none : (n : ℕ) → count_by (λ (b : Bool). b) (replicate n false) ≡ 0
-count-none zero = refl
-count-none (suc n) = count-none n
-
 none-marked : (n i : ℕ) → Marked (replicate n false) i → ⊥
 none-marked zero i h = absurd (cc)
 none-marked (suc n) zero h = false≢true h
 none-marked (suc n) (suc i) h = none-marked n i h
-
-pub work_none : (n : ℕ) → IsWork (replicate n false) []
-work_none n = record {
-  listed = λ i h. absurd (none-marked n i h);
-  marked = λ k l. absurd (omega arith);
-  inside = λ k l. absurd (omega arith);
-  counted = sym (count-none n);
-}
 
 pub queue-fits : (marks : List Bool) (queue : List ℕ) → IsWork marks queue → length queue ≤ length marks
 queue-fits marks queue work =

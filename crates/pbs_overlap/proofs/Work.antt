@@ -17,13 +17,6 @@ count-set marks i l h =
     let f : cond {A = ℕ} (get_or marks i false) 1 0 ≡ 0 = ap (λ (b : Bool). cond {A = ℕ} b 1 0) h in
     omega arith
 
--- a marked cell is one of the table
-pub marked-inside : (marks : List Bool) (i : ℕ) → Marked marks i → i < length marks
-marked-inside marks i h = elim (cases_lt i (length marks)) [
-  | inl l ↦ l
-  | inr g ↦ let e : false ≡ true = sym (get_or-eq_default marks false g) ∙ h in absurd (cc)
-]
-
 module _ (marks : List Bool) (queue : List ℕ) (cell : ℕ) (inside : cell < length marks) where
   pub mark-kept : (i : ℕ) → Marked marks i → Marked (set marks cell true) i
   mark-kept i h = elim (cases_eq i cell) [
@@ -78,24 +71,6 @@ visits_new old new cell inside m q unmarked work = record {
   longer = let e = ap (λ qs. length qs) q in let l = length-append old.queue.items (cell ∷ []) in omega arith;
   same_front = λ k l. ap (λ qs. get_or qs k 0) q ∙ get_or_append_left old.queue.items (cell ∷ []) 0 k l;
 }
-
--- nothing was visited
-pub visits_same : (T : ℕ → Type 0) (old : Reached) → IsWork old.marks.items old.queue.items
-    → ((i : ℕ) → T i → Marked old.marks.items i) → Visits T old old
-visits_same T old work there = record {
-  work = work;
-  kept = λ i h. h;
-  reached = there;
-  only = λ i h. inl h;
-  same_size = refl;
-  longer = omega arith;
-  same_front = λ k l. refl;
-}
-
-pub visits_none : (P : ℕ → ℕ → Type 0) (a : ℕ) (old : Reached) → IsWork old.marks.items old.queue.items
-    → Visits (Between a a P) old old
-visits_none P a old work =
-    visits_same (Between a a P) old work (λ i h. absurd (let l = h.1 in let m = h.2 in omega arith))
 
 -- an iteration of a loop that visits what has the property P at its index
 pub visits_more : {P : ℕ → ℕ → Type 0} {a : ℕ} {x y z : Reached} (n : ℕ) → a ≤ n → Visits (Between a n P) x y

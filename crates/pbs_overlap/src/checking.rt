@@ -1,10 +1,8 @@
 // The check of the overlap rule.
-ghost use Rattle.std.specs.Prelude.{◌≡◌, IfErr, IfOk};
+ghost use Rattle.std.specs.Prelude.{IfErr, IfOk};
 ghost use Rattle.pbs_ast.specs.Trees.{tree_of};
 ghost use Rattle.pbs_edges.specs.Found.{AreEdges};
 ghost use Rattle.pbs_edges.specs.Walks.{BreaksNoScope};
-ghost use Rattle.pbs_overlap.specs.Ranges.{ranges};
-ghost use Rattle.pbs_overlap.specs.inner.Planning.{IsPlan};
 ghost use Rattle.pbs_overlap.specs.Told.{IsOverlapCause, TellsTogether};
 
 use crate::fail::OverlapFail;

@@ -1,9 +1,6 @@
 // Which places' effective terms can be true in one vector.
-ghost use Rattle.std.specs.Prelude.{◌≡◌, ◌≤◌, ◌<◌, ◌*◌, length, slice_index, ℕ, IfOk, IsTrue};
-ghost use Rattle.bool_terms.specs.Terms.{holds, term_of, term_inputs_below};
-ghost use Rattle.bool_bdd.specs.Diagrams.{IsNode};
+ghost use Rattle.std.specs.Prelude.{◌≡◌, ◌≤◌, ◌<◌, ◌*◌, length, slice_index, ℕ, IfOk};
 ghost use Rattle.pbs_ast.specs.Trees.{tree_of};
-ghost use Rattle.pbs_ast.specs.Sound.{place_count};
 ghost use Rattle.pbs_edges.specs.Found.{HasFewTerms};
 ghost use Rattle.pbs_overlap.specs.inner.Joints.{joint_at, AllInputsBelow, AllNodes, AreNodes, AreTold, TellsJoint};
 

@@ -1,5 +1,5 @@
 // The lowest scope that a joint step refuses.
-ghost use Rattle.std.specs.Prelude.{◌≡◌, ℕ, ◌≤◌, ◌<◌, ◌*◌, ◌&&◌, length, vec_len};
+ghost use Rattle.std.specs.Prelude.{◌≡◌, ◌<◌, ◌*◌, ◌&&◌, length, vec_len};
 ghost use Rattle.pbs_overlap.specs.inner.Joints.{joint_at};
 ghost use Rattle.pbs_overlap.specs.inner.Search.{marked_at, Between, EachFromBelow, IsShaped};
 ghost use Rattle.pbs_overlap.specs.inner.Lowest.{lower_of, refused_at, IsLowest, RefusesWith};

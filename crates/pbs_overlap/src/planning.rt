@@ -1,7 +1,6 @@
 // The plan of a search.
-ghost use Rattle.std.specs.Prelude.{◌≡◌, ℕ, ◌≤◌, ◌<◌, ◌+◌, length, vec_len, IfOk, slice_index};
+ghost use Rattle.std.specs.Prelude.{◌≡◌, ℕ, ◌≤◌, ◌<◌, ◌+◌, length, IfOk};
 ghost use Rattle.pbs_ast.specs.Trees.{tree_of};
-ghost use Rattle.pbs_ast.specs.Sound.{place_count};
 ghost use Rattle.pbs_edges.specs.Found.{AreEdges};
 ghost use Rattle.pbs_overlap.specs.Ranges.{ranges};
 ghost use Rattle.pbs_overlap.specs.inner.Planning.{edge_at, AreSplit, AreStepsOf, FromsRise, IsPlan, IsSplit};

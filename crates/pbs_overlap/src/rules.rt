@@ -1,5 +1,5 @@
 // The rules 14, 15 and 16, in this order.
-ghost use Rattle.std.specs.Prelude.{◌≡◌, false};
+ghost use Rattle.std.specs.Prelude.{◌≡◌};
 ghost use Rattle.pbs_base.specs.declared.refusal.Span.{Span as SpanValue};
 ghost use Rattle.pbs_ast.specs.Trees.{has_no_scope, tree_of};
 ghost use Rattle.pbs_edges.specs.Found.{AreEdges};

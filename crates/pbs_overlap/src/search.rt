@@ -1,5 +1,5 @@
 // A search for the pairs of places that double walks end in. The pair of p and q is the cell p * places + q of a table.
-ghost use Rattle.std.specs.Prelude.{◌≡◌, ℕ, ◌≤◌, ◌<◌, ◌+◌, ◌*◌, ◌/◌, ◌%◌, length, vec_len, OnOk, IfOk};
+ghost use Rattle.std.specs.Prelude.{◌≡◌, ◌≤◌, ◌<◌, ◌+◌, ◌*◌, length, vec_len, OnOk, IfOk};
 ghost use Rattle.pbs_overlap.specs.inner.Search.{first_at, fit_at, EachBelow, IsShaped, IsWork, Leads};
 ghost use Rattle.pbs_overlap.specs.inner.Search.{Between, IsStart, Searched, Taken, TakenFrom, Visits};
 

@@ -65,6 +65,19 @@ leaves_few (Hold at t e) = let h = term_leaves t in let k = leaves_few e in omeg
 leaves_few (Scope at s e x h) =
     let i = leaves_few e in let j = leaves_few x in let k = leaves_few h in omega arith
 
+-- ---- places are nodes
+
+pub places_few : (e : Tree) → place_count e ≤ node_count e
+places_few (Empty at) = omega arith
+places_few (Terminal at p t) = omega arith
+places_few (Action at a) = omega arith
+places_few (Seq at e f) = let h = places_few e in let k = places_few f in omega arith
+places_few (Choice at e f) = let h = places_few e in let k = places_few f in omega arith
+places_few (Star at e) = let h = places_few e in omega arith
+places_few (Hold at t e) = let h = places_few e in omega arith
+places_few (Scope at s e x h) =
+    let i = places_few e in let j = places_few x in let k = places_few h in omega arith
+
 -- ---- the tree
 
 pub record IsSmall (main : Tree) : Type 0 where

@@ -1,6 +1,6 @@
 -- The inputs, actions and levels that a text declares have words for names.
 use Rattle.std.proofs.Common.{◌≡◌, ℕ, zero, suc, ◌+◌, ◌<◌, List, [], ◌∷◌, ◌++◌, Bool, true, refl, sym, subst, ◌∙◌}
-use Rattle.std.proofs.Common.{arith, length-append, nat_eq, ◌≤◌}
+use Rattle.std.proofs.Common.{arith, length-append, nat_eq}
 use Rattle.std.specs.Prelude.{codes, decimal}
 use Rattle.std.proofs.lemmas.Fmt.{decimal_digit}
 use Rattle.std.proofs.lemmas.List.Folds.{list_all-append}
@@ -14,7 +14,8 @@ use Rattle.pbs_text.specs.Grammar.{OneInput, MoreInputs, NamesPhrase, OneName, M
 use Rattle.pbs_text.specs.Grammar.{ActionDecl, LevelDecl, ProdDecl, DeclsPhrase, NoDecls, MoreDecls, input_tokens}
 use Rattle.pbs_text.specs.Grammar.{inputs_tokens, names_tokens, decl_tokens, decls_tokens, head_tokens, expr_tokens}
 use Rattle.pbs_text.specs.Grammar.{text_tokens, TextPhrase, OfVersion}
-use Rattle.pbs_text.specs.Trees.{word_at, declared, input_of, inputs_of, names_of, sets_of, Declared, with_decl, declared_by}
+use Rattle.pbs_text.specs.Trees.{word_at, declared, input_of, inputs_of, names_of, sets_of, Declared, with_decl}
+use Rattle.pbs_text.specs.Trees.{declared_by}
 use Rattle.pbs_text.specs.Trees.{text_spec}
 use Rattle.pbs_text.specs.Lexing.{is_word_byte}
 use Rattle.pbs_text.specs.Answers.{StandsFor}

@@ -4,4 +4,10 @@ pub mod Counted
 pub mod Ports
 pub mod Pins
 pub mod Emitting
+pub mod OneCoding
+pub mod OwnCodes
+pub mod SharedCodes
+pub mod CodedLemmas
+pub mod ShrinkLemmas
+pub mod TidiedLemmas
 pub mod RealizeLemmas

@@ -11,7 +11,7 @@ use Rattle.net_core.specs.declared.netlist.Output.{Output}
 use Rattle.net_core.specs.Circuits.{Circuit}
 use Rattle.net_core.specs.Building.{input_pin, input_pins, gate_input_pins}
 use Rattle.vlog_write.specs.NamedPins.{output_pin, named_pin, list_named_pins, gate_named_pins, named_pins}
-use Rattle.pbs_controller.specs.Outputs.{ReadsNone, AreUnread}
+use Rattle.net_core.specs.Unread.{ReadsNone, AreUnread}
 
 none_driven : (outputs : List Output) (g : ℕ)
     → ((n : ℕ) (o : Output) → slice_get outputs n ≡ Some o → wire.Gate g ≢ wire.Gate o.gate)

@@ -1,17 +1,21 @@
 //! Laws of what is written for netlists: a caller gets them as clauses of a call.
-ghost use Rattle.std.specs.Prelude.{◌≤◌, List, ℕ, codes};
+ghost use Rattle.std.specs.Prelude.{◌≡◌, ◌≤◌, List, ℕ, codes};
+ghost use Rattle.pbs_ast.specs.Trees.{Tree};
 ghost use Rattle.pbs_ast.specs.declared.syntax.Spec.{Spec};
 ghost use Rattle.pbs_text.specs.Answers.{StandsFor};
 ghost use Rattle.pbs_names.specs.Naming.{action_names, input_names, level_names};
 ghost use Rattle.pbs_check.specs.Checked.{IsUnbroken};
+ghost use Rattle.net_core.specs.declared.codes.Code.{Code};
 ghost use Rattle.net_core.specs.Circuits.{Circuit};
 ghost use Rattle.vlog_text.specs.Emitted.{emitted};
 ghost use Rattle.vlog_text.specs.Reading as netlists;
 ghost use Rattle.pbs_controller.specs.Controllers.{IsWritable};
 ghost use Rattle.pbs_controller.specs.Ports.{output_ports, ports_of};
+ghost use Rattle.pbs_realize.specs.Codes.{AreCodes};
 ghost use Rattle.pbs_realize.specs.inner.NameWords.{HasWords};
 
 use pbs_check::laws::{declared_once, within_limits};
+use pbs_codes::laws::one_code_plan;
 use vlog_write::laws::{built_text_is_short, written_reads_back};
 
 // The names that a text declares are words: a letter or `_`, then letters, digits and `_`, at most 64 bytes, and two
@@ -35,4 +39,11 @@ pub fn emitted_stands()
     within_limits();
     built_text_is_short();
     written_reads_back();
+}
+
+/// A tree has one coding: the same codes of places.
+pub fn one_coding()
+    ensures { (main : Tree) (m n : ℕ) (cs ds : List Code) → AreCodes main m cs → AreCodes main n ds → cs ≡ ds }
+{
+    one_code_plan();
 }

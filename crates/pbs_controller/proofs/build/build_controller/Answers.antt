@@ -20,8 +20,11 @@ add_outputs-requires-clause-there c =
     (has_later c.compose.new.b laid fires levels.keeps c.in_ok-composed.ensures.circuit.fires_there)
     levels.wires_there)
 
-pub returns : goal.returns
-returns c =
+pub returns-clause-map : goal.returns-clause-map
+returns-clause-map c = c.in_ok-composed.ensures.map
+
+pub returns-clause-net : goal.returns-clause-net
+returns-clause-net c =
     let inputs = c.args.inputs.now in
     let actions = c.args.actions.now in
     let levels = c.args.levels.now in

@@ -1,0 +1,9 @@
+pub mod Plans
+pub mod Columns
+pub mod Drafts
+pub mod Moves
+pub mod Seats
+pub mod Telling
+pub mod Sharing
+pub mod Stages
+pub mod Unread

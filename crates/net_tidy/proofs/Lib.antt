@@ -1,0 +1,15 @@
+pub mod Formed
+pub mod Keyed
+pub mod Pooled
+pub mod Joining
+pub mod Reducing
+pub mod Folding
+pub mod Marking
+pub mod Sweeping
+pub mod Renaming
+pub mod Shrinking
+pub mod Assembling
+pub mod Following
+pub mod Neatness
+pub mod Tidying
+pub mod Running
