@@ -1,11 +1,9 @@
 -- The first file, and what is done with it.
-use Rattle.std.proofs.Common.{◌≡◌, ◌<◌, ◌≤◌, ◌+◌, ℕ, List, [], length, Option, Some, None, Result, Ok, Err, Vec}
+use Rattle.std.proofs.Common.{◌≡◌, ◌<◌, ◌+◌, ℕ, List, [], length, Some, Result, Ok, Err, Vec}
 use Rattle.std.proofs.Common.{refl, sym, subst, ◌∙◌, arith}
 use Rattle.std.specs.Prelude.{OnOk}
-use Rattle.std.specs.Option.{ForSome}
 use Rattle.std.specs.Io.KnownBytes.{IsAtEnd}
 use Rattle.std.specs.declared.alloc.Global.{Global}
-use Rattle.pbs_base.specs.declared.refusal.Refusal.{Refusal}
 use Rattle.pbs_io.specs.Outside.{ShelfState, SlotState, SinkState, NamedFile, content_of}
 use Rattle.pbs_io.specs.Taken.{TakesAtMost}
 use Rattle.pbs_io.proofs.WrittenLemmas.{append_known-nil}
@@ -13,20 +11,24 @@ use Rattle.pbs_text.specs.Answers.{ByLength}
 use Rattle.vlog_text.specs.Reading as netlists
 use Rattle.net_trace.specs.Outcomes.{refused}
 use Rattle.net_trace.specs.Endings.{trace_text, HasTrace, RunEnds, lines_of}
-use Rattle.net_trace.proofs.EndingLemmas.{IsPart, ends_more, few_more, took_few, took_little, wrote_nothing, nothing_cut}
+use Rattle.net_trace.proofs.EndingLemmas.{IsPart, ends_more, few_more, took_few, took_little, wrote_nothing}
+use Rattle.net_trace.proofs.EndingLemmas.{nothing_cut}
 use Rattle.net_trace.specs.declared.fail.RunFail.{RunFail}
 use Rattle.net_trace.specs.declared.fail.RunFail.TheVariants as fails
 use Rattle.pbs_engine.specs.Accepted.{OnReading}
+use Rattle.pbs_engine.specs.Migrated.{OnChecking}
 use Rattle.pbs_engine.specs.Outcomes.{OfRefused, OfBadNetlist}
-use Rattle.pbs_cli.specs.Words.{Job, Check, Compile, Sim, Trace, Run}
-use Rattle.pbs_cli.specs.Answers.{OnBroken, OnNoVerilog, HasNeeded, task_of, most_of}
-use Rattle.pbs_cli.specs.inner.Parts.{ReadsFirst, FirstGives, Does, Attempts, subject_of, too_long}
+use Rattle.pbs_cli.specs.Words.{Job, Check, Compile, Map, Migrate, Sim, Trace, Run}
+use Rattle.pbs_cli.specs.Answers.{OnBroken, OnNoMap, OnNoMigration, OnNoVerilog, HasNeeded, task_of, most_of}
+use Rattle.pbs_cli.specs.inner.Parts.{ReadsFirst, Does, Attempts, subject_of, too_long}
 
 -- a text that is too long is refused by every job
 long_gives : (job : Job) (text trace : List ℕ) → most_of job < length text
     → (task_of job).gives text trace (refused (too_long (subject_of job) (most_of job)))
 long_gives Check text trace is = OnBroken (OnReading (ByLength is))
 long_gives Compile text trace is = OnNoVerilog (OnReading (ByLength is))
+long_gives Map text trace is = OnNoMap (OnReading (ByLength is))
+long_gives Migrate text trace is = OnNoMigration (OnChecking (OnReading (ByLength is)))
 long_gives (Sim name) text trace is = OfBadNetlist (netlists.ByLength is)
 long_gives (Trace name) text trace is = OfRefused (OnReading (ByLength is))
 

@@ -1,5 +1,5 @@
 -- What is done with a text.
-use Rattle.std.proofs.Common.{◌≡◌, ◌≤◌, ℕ, List, [], Option, Some, None, Result, Ok, Err, refl, sym, inr, arith}
+use Rattle.std.proofs.Common.{ℕ, List, [], None, Result, Ok, Err, refl, sym, inr, arith}
 use Rattle.pbs_base.specs.declared.refusal.Refusal.{Refusal}
 use Rattle.pbs_io.specs.Outside.{ShelfState, SinkState, Writes}
 use Rattle.pbs_io.proofs.WrittenLemmas.{append_known-nil}
@@ -40,9 +40,6 @@ text_refused gives r k is = record {
   later = omega arith;
   ends = record { text = []; defined = is; written = sym (append_known-nil k.written) };
 }
-
-pub no_memory : (gives : Outcome → Type 0) (k : SinkState) → EndsAlone gives k k (Err fails.Memory)
-no_memory gives k = record { later = omega arith; ends = refl }
 
 -- ---- a task that reads nothing
 

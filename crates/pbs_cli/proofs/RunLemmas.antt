@@ -1,6 +1,6 @@
 -- How a command is answered.
-use Rattle.std.proofs.Common.{◌≡◌, ◌≤◌, ℕ, List, [], ◌++◌, Option, Some, None, Result, Ok, Err}
-use Rattle.std.proofs.Common.{refl, sym, ap, subst, ◌∙◌, inl, inr, arith, append_assoc}
+use Rattle.std.proofs.Common.{◌≡◌, ◌≤◌, ℕ, List, ◌++◌, Option, Some, None, Result, Ok, Err}
+use Rattle.std.proofs.Common.{sym, ap, subst, ◌∙◌, inl, inr, arith, append_assoc}
 use Rattle.std.specs.Option.{ForSome}
 use Rattle.std.specs.Io.KnownBytes.{append_known}
 use Rattle.pbs_base.specs.declared.refusal.Refusal.{Refusal}
@@ -20,14 +20,14 @@ use Rattle.pbs_cli.specs.declared.status.Status.TheVariants.{Accepted, Refused, 
 -- ---- outcomes as answers
 
 module _ (gives : Outcome → Type 0) (k m n : SinkState) where
-  whole : Wrote (lines_with gives None) k m → Wrote (texts_with (Answers gives) 0) k m
+  pub whole : Wrote (lines_with gives None) k m → Wrote (texts_with (Answers gives) 0) k m
   whole w = record {
     text = w.text;
     defined = OnOutcome (record { lines = w.text; refusal = None }) w.defined;
     written = w.written;
   }
 
-  refused_whole : (r : Refusal) → Wrote (lines_with gives (Some r)) k m
+  pub refused_whole : (r : Refusal) → Wrote (lines_with gives (Some r)) k m
       → n.written ≡ append_known m.written (refusal_line r) → Wrote (texts_with (Answers gives) 1) k n
   refused_whole r w line = record {
     text = w.text ++ refusal_line r;
@@ -36,7 +36,7 @@ module _ (gives : Outcome → Type 0) (k m n : SinkState) where
         ∙ (ap (λ l. append_known l (refusal_line r)) w.written ∙ append_known-twice k.written w.text (refusal_line r));
   }
 
-  refusal_cut : (r : Refusal) → Wrote (lines_with gives (Some r)) k m
+  pub refusal_cut : (r : Refusal) → Wrote (lines_with gives (Some r)) k m
       → WritesFront m.written n.written (refusal_line r) → CutShort (texts_of (Answers gives)) k n
   refusal_cut r w front = record {
     front = w.text ++ front.front;
@@ -66,7 +66,7 @@ front_of gives front lines rest (Some r) is whole = record {
   whole = sym (append_assoc front rest (refusal_line r)) ∙ ap (λ l. l ++ refusal_line r) whole;
 }
 
-lines_cut : (gives : Outcome → Type 0) (k m : SinkState) → CutShort (lines_of gives) k m
+pub lines_cut : (gives : Outcome → Type 0) (k m : SinkState) → CutShort (lines_of gives) k m
     → CutShort (texts_of (Answers gives)) k m
 lines_cut gives k m c = record {
   front = c.front;
@@ -80,7 +80,7 @@ lines_cut gives k m c = record {
 -- ---- what was attempted has ended
 
 -- a status and a sink that are these
-at_once : (P : SinkState → Status → Type 0) (m n : SinkState) (done status : Status)
+pub at_once : (P : SinkState → Status → Type 0) (m n : SinkState) (done status : Status)
     → (status ≡ done) × (n ≡ m) → P m done → P n status
 at_once P m n done status is p =
     subst (λ s. P n s) (sym is.0) (subst (λ x. P x done) (sym is.1) p)
@@ -142,7 +142,7 @@ module _ (job : Job) (first : List ℕ) (a c : ShelfState) (k m n : SinkState) w
   pub finishes : (run : Result (Unit {0}) RunFail) (status : Status) → Attempts job first a c k m run
       → Finishes m n run status → EndsCommand (Run job first) a c k n status
   finishes run status at is = record {
-    needed = tt;
+    needed = λ is. tt;
     ends = run_ends run status at.ends at.later is;
     ended = to_the_end run status at is;
     second = at.second;

@@ -1,5 +1,5 @@
 -- What the top call says, by the status.
-use Rattle.std.proofs.Common.{◌≡◌, ◌≢◌, ◌≤◌, ◌<◌, ◌+◌, ◌⊎◌, ℕ, true, List, [], refl, sym, subst, ◌∙◌, inl, inr, arith}
+use Rattle.std.proofs.Common.{◌≡◌, ◌≢◌, ◌≤◌, ◌<◌, ◌+◌, ◌⊎◌, ℕ, true, [], refl, sym, subst, inl, inr, arith}
 use Rattle.std.specs.Option.{ForSome}
 use Rattle.pbs_io.specs.Outside.{ShelfState, SinkState, Rose}
 use Rattle.pbs_io.specs.Taken.{TakesAtMost}
@@ -9,7 +9,8 @@ use Rattle.net_trace.specs.Endings.{CutShort, Wrote, WroteTaken}
 use Rattle.net_trace.proofs.EndingLemmas.{took_few}
 use Rattle.pbs_cli.specs.Words.{Command}
 use Rattle.pbs_cli.specs.Words as words
-use Rattle.pbs_cli.specs.Answers.{Defines, DueRows, HasNeeded, NeedsFile, NeedsNoSecond, ReadToEnd, first_of, first_most}
+use Rattle.pbs_cli.specs.Answers.{Defines, DueRows, HasNeeded, NeedsFile, NeedsNoSecond, ReadToEnd, first_of}
+use Rattle.pbs_cli.specs.Answers.{first_most}
 use Rattle.pbs_cli.specs.Answers.{trace_of, texts_with, texts_of}
 use Rattle.pbs_cli.specs.inner.Status.{code_of}
 use Rattle.pbs_cli.specs.inner.Parts.{EndsCommand}
@@ -106,7 +107,7 @@ read_fault_ends command s n k m e = record {
   answered = λ less. absurd (omega arith);
   ended = λ is. absurd (cc);
   read = λ is. e.ends.0.rose;
-  needs = λ is. e.needed;
+  needs = λ is. e.needed refl;
   never = λ calm files told has is. e.ends.0.never calm files told has;
   write = λ is. absurd (cc);
   front = λ is files told. (e.ends.1 files told).front;

@@ -20,7 +20,7 @@ fn subject_of(job: &Job<'_>) -> Subject
     ensures { result ≡ subject_of (job_meant job.now) }
 {
     match job {
-        Job::Check | Job::Compile | Job::Trace(_) => Subject::Spec,
+        Job::Check | Job::Compile | Job::Map | Job::Migrate | Job::Trace(_) => Subject::Spec,
         Job::Sim(_) => Subject::Netlist,
     }
 }
@@ -31,7 +31,7 @@ fn most_of(job: &Job<'_>) -> u32
     ensures few { result < 1073741824 }
 {
     match job {
-        Job::Check | Job::Compile | Job::Trace(_) => SPEC_BYTES,
+        Job::Check | Job::Compile | Job::Map | Job::Migrate | Job::Trace(_) => SPEC_BYTES,
         Job::Sim(_) => NETLIST_BYTES,
     }
 }

@@ -5,7 +5,7 @@ ghost use Rattle.pbs_cli.specs.Answers.{Answer, Defines};
 ghost use Rattle.pbs_cli.specs.Words.{Command, Compile, Run};
 
 use net_eval::laws::one_assignment;
-use pbs_engine::laws::{one_check, one_outcome};
+use pbs_engine::laws::{one_check, one_map, one_migration, one_outcome};
 use vlog_read::laws::{one_answer as one_netlist, stands_for_circuit};
 
 /// A command other than `compile` has at most one answer over files that are told.
@@ -15,6 +15,8 @@ pub fn one_answer()
         → Defines command files a → Defines command files b → a ≡ b }
 {
     one_check();
+    one_map();
+    one_migration();
     one_outcome();
     one_netlist();
     one_assignment();

@@ -1,19 +1,19 @@
 // The top call.
 ghost use Rattle.std.specs.Prelude.{◌≡◌, ◌↔◌, ◌+◌, ◌<◌, ◌≤◌, ◌⊎◌, ◌≢◌, Some, true};
 ghost use Rattle.std.specs.Option.{ForSome};
-ghost use Rattle.pbs_io.specs.Outside.{Rose};
+ghost use Rattle.pbs_io.specs.Outside.{Rose, ShelfState};
 ghost use Rattle.pbs_io.specs.Taken.{TakesAtMost};
 ghost use Rattle.net_trace.specs.Endings.{CutShort, Wrote, WroteTaken};
 ghost use Rattle.net_trace.specs.Taken.{Stops, TakesLittle};
-ghost use Rattle.pbs_cli.specs.Words.{command_of, texts, Usage};
+ghost use Rattle.pbs_cli.specs.Words.{command_of, texts, Run, Soak, Usage};
 ghost use Rattle.pbs_cli.specs.Answers.{Defines, DueRows, HasNeeded, NeedsFile, NeedsNoSecond, ReadToEnd};
 ghost use Rattle.pbs_cli.specs.Answers.{first_of, first_most, texts_of, texts_with, trace_of};
-ghost use Rattle.pbs_cli.specs.inner.Parts.{Attempts, EndsCommand, job_meant, meant};
+ghost use Rattle.pbs_cli.specs.inner.Parts.{Attempts, EndsCommand, IsFew, job_meant, meant};
 ghost use Rattle.pbs_cli.specs.declared.status.Status.TheVariants as status;
 
-use crate::command::{Command, parse};
+use crate::command::{Command, Job, parse};
 use crate::first::read_first;
-use crate::job::do_job;
+use crate::job::{do_job, soak_line};
 use crate::status::{Status, code, finish};
 use pbs_engine::RunFail;
 use pbs_io::{Shelf, Sink};
@@ -88,20 +88,45 @@ pub fn run<S: Shelf, K: Sink>(alloc: Global, words: &[String], shelf: &mut S, ou
     code(perform(alloc, words, shelf, out))
 }
 
-// What the command comes to, but for the line of a refusal.
+// What a job comes to, but for the line of a refusal.
 fn attempt<S: Shelf, K: Sink>(
     alloc: Global,
-    command: &Command<'_>,
+    job: &Job<'_>,
+    first: &str,
     shelf: &mut S,
     out: &mut K,
 ) -> Result<(), RunFail>
-    ensures { Attempts (job_meant command.now.job) command.now.first.now (S.state shelf.old) (S.state shelf.new)
+    ensures { Attempts (job_meant job.now) first.now (S.state shelf.old) (S.state shelf.new)
         (K.state out.old) (K.state out.new) result }
 {
-    match read_first(alloc, shelf, command.first, &command.job) {
-        Ok(bytes) => do_job(alloc, &command.job, bytes.as_slice(), shelf, out),
+    match read_first(alloc, shelf, first, job) {
+        Ok(bytes) => do_job(alloc, job, bytes.as_slice(), shelf, out),
         Err(fail) => Err(fail),
     }
+}
+
+// Does a job, and answers how that ended.
+fn run_job<S: Shelf, K: Sink>(
+    alloc: Global,
+    job: &Job<'_>,
+    first: &str,
+    shelf: &mut S,
+    out: &mut K,
+) -> Status
+    ensures { EndsCommand (Run (job_meant job.now) first.now) (S.state shelf.old) (S.state shelf.new)
+        (K.state out.old) (K.state out.new) result }
+{
+    let end = attempt(alloc, job, first, shelf, out);
+    finish(out, end)
+}
+
+// Does a soak, and answers how that ended.
+fn run_soak<K: Sink>(alloc: Global, n: u32, out: &mut K) -> Status
+    requires { n ≤ 1000 }
+    ensures { (shelf : ShelfState) → EndsCommand (Soak n) shelf shelf (K.state out.old) (K.state out.new) result }
+{
+    let end = soak_line(alloc, n, out);
+    finish(out, end)
 }
 
 // Does the command, and answers how that ended.
@@ -111,11 +136,14 @@ fn carry_out<S: Shelf, K: Sink>(
     shelf: &mut S,
     out: &mut K,
 ) -> Status
+    requires { IsFew command.now }
     ensures { EndsCommand (meant (Some command.now)) (S.state shelf.old) (S.state shelf.new)
         (K.state out.old) (K.state out.new) result }
 {
-    let end = attempt(alloc, command, shelf, out);
-    finish(out, end)
+    match command {
+        Command::Run(job, first) => run_job(alloc, job, first, shelf, out),
+        Command::Soak(n) => run_soak(alloc, *n, out),
+    }
 }
 
 fn perform<S: Shelf, K: Sink>(alloc: Global, words: &[String], shelf: &mut S, out: &mut K) -> Status

@@ -11,6 +11,7 @@ use Rattle.pbs_io.proofs.WrittenLemmas.{append_known-nil}
 use Rattle.pbs_ast.specs.declared.syntax.Level.{Level}
 use Rattle.pbs_ast.specs.declared.syntax.Spec.{Spec}
 use Rattle.pbs_names.specs.Naming.{action_names, level_names}
+use Rattle.net_core.specs.declared.codes.Code.{Code}
 use Rattle.net_core.specs.Rows.{Row}
 use Rattle.net_core.specs.Circuits.{Circuit}
 use Rattle.net_core.specs.Runs.{output_value}
@@ -49,16 +50,17 @@ rows_same names p q k (suc n) same =
     (rows_same names p q (suc k) n (λ j low high. same j (omega arith) (omega arith)))
 
 -- the rows that such a netlist shows are those that are due
-shows_due_rows : (spec : Spec) (net : Circuit) (rows : ℕ → Row) (entries : List Entry) → Realizes spec net
-    → IsZeroRun net entries rows → shown_rows net rows (length entries) ≡ due_rows spec entries
-shows_due_rows spec net rows entries right run =
+shows_due_rows : (spec : Spec) (net : Circuit) (place_codes : List Code) (rows : ℕ → Row) (entries : List Entry)
+    → Realizes spec net place_codes → IsZeroRun net entries rows
+    → shown_rows net rows (length entries) ≡ due_rows spec entries
+shows_due_rows spec net place_codes rows entries right run =
     let names = output_ports (action_names spec.actions) (level_names spec.levels) in
     let m = length (action_names spec.actions) in
     ap (λ l. rows_text l (λ k n. output_value net (rows k) n) 0 (suc (length entries))) right.outputs
     ∙ rows_same names (λ k n. output_value net (rows k) n) (is_due spec entries) 0 (suc (length entries))
     (λ j low high n less.
-    shows_due net (expanded spec) m (level_plan spec) entries rows j (right.shows entries rows run.run j (omega arith))
-    (right.shows_levels entries rows run.run j (omega arith)) n
+    let row = right.shows entries rows run.run j (omega arith) in
+    shows_due net (expanded spec) right.places m (level_plan spec) entries rows j row.fires row.levels n
     (let count = length-outputs (action_names spec.actions) (level_names spec.levels) in
     let names_of = length-map spec.levels (λ (l : Level). l.name) in
     let plans = length-map spec.levels (λ l. plan_of_level (action_names spec.actions) l) in
@@ -71,7 +73,7 @@ text_gives text bytes net back o (OnHeader {r} at) =
     OfHeader back.spec back.accepted (subst (λ ports. trace ports bytes ≡ NoHeader r) back.realizes.inputs at)
 text_gives text bytes net back o (OnRows read is rows run) =
     subst (λ l. TextGives text bytes (ended l (length read.entries) read.ending))
-    (sym (shows_due_rows back.spec net rows read.entries back.realizes run))
+    (sym (shows_due_rows back.spec net back.place_codes rows read.entries back.realizes run))
     (OfRows back.spec back.accepted read (subst (λ ports. trace ports bytes ≡ Traced read) back.realizes.inputs is))
 
 -- what is due of the netlist, is due of the text
@@ -82,7 +84,8 @@ text_due text net back taken lines rows = record {
   accepted = back.accepted;
   entries = rows.entries;
   has = subst (λ ports. HasRows ports taken rows.entries) back.realizes.inputs rows.has;
-  lines_are = rows.lines_are ∙ shows_due_rows back.spec net rows.rows rows.entries back.realizes rows.run;
+  lines_are = rows.lines_are
+      ∙ shows_due_rows back.spec net back.place_codes rows.rows rows.entries back.realizes rows.run;
 }
 
 -- ---- how the calls end

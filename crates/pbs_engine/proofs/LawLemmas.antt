@@ -83,4 +83,5 @@ one_broken one text r s (OnReading p) (OnReading q) = ap (err_of r) (one.answer 
 one_broken one text r s (OnReading p) (OnSpec spec read broken) = absurd (never_both one text spec r read p)
 one_broken one text r s (OnSpec spec read broken) (OnReading q) = absurd (never_both one text spec s read q)
 one_broken one text r s (OnSpec spec read broken) (OnSpec other read_other broken_too) =
-    one_rule one other r s (subst (λ x. SpecBreaks x r) (one_spec one text spec other read read_other) broken) broken_too
+    one_rule one other r s
+    (subst (λ x. SpecBreaks x r) (one_spec one text spec other read read_other) broken) broken_too

@@ -2,5 +2,8 @@ pub mod FrontLemmas
 pub mod LawLemmas
 pub mod ControllerLemmas
 pub mod RightLemmas
+pub mod MapLemmas
+pub mod MigrateLemmas
 pub mod EndLemmas
+pub mod SoakLemmas
 pub mod OutcomeLaws

@@ -7,6 +7,8 @@ use Rattle.vlog_text.specs.Reading as netlists
 use Rattle.vlog_read.specs.Read.{Reads}
 use Rattle.vlog_text.specs.declared.fail.VlogFail.{VlogFail}
 use Rattle.vlog_text.specs.declared.fail.VlogFail.TheVariants as reads
+use Rattle.pbs_ast.specs.declared.syntax.Spec.{Spec}
+use Rattle.pbs_controller.specs.declared.build.Controller.{Controller}
 use Rattle.pbs_realize.specs.Realizes.{Realizes}
 use Rattle.pbs_engine.specs.declared.fail.EngineFail.{EngineFail}
 use Rattle.pbs_engine.specs.declared.fail.EngineFail.TheVariants as engine
@@ -15,14 +17,20 @@ use Rattle.pbs_engine.specs.Right.{IsVerilogOf, Compiles, IsReadBack, ReadsBack}
 
 -- ---- writing
 
-pub compiled : (text before now : List ℕ) (net : Circuit) → IsControllerOf text net → now ≡ before ++ emitted net
-    → Compiles text before now (Ok tt)
-compiled text before now net made appended = (
-  emitted net,
+pub compiled : (text before now : List ℕ) (made : Controller) → (spec : Spec) × IsControllerOf text spec made
+    → now ≡ before ++ emitted made.net → Compiles text before now (Ok tt)
+compiled text before now made (spec, is) appended = (
+  emitted made.net,
   record {
-    spec = made.spec;
-    accepted = made.accepted;
-    right = record { net = net; stands = made.stands; written = refl; realizes = made.realizes };
+    spec = spec;
+    accepted = is.accepted;
+    right = record {
+      net = made.net;
+      place_codes = made.map;
+      stands = is.stands;
+      written = refl;
+      realizes = is.realizes;
+    };
   },
   appended,
 )
@@ -49,8 +57,9 @@ pub was_read_back : OneNet → (text verilog : List ℕ) (net : Circuit) → IsV
 was_read_back one text verilog net right stands = record {
   spec = right.spec;
   accepted = right.accepted;
-  realizes = subst (Realizes right.spec) (one verilog right.right.net net right.right.stands stands)
-      right.right.realizes;
+  place_codes = right.right.place_codes;
+  realizes = subst (λ n. Realizes right.spec n right.right.place_codes)
+      (one verilog right.right.net net right.right.stands stands) right.right.realizes;
 }
 
 -- a text stands for a netlist or is refused

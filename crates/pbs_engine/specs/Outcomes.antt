@@ -21,8 +21,8 @@ use Rattle.pbs_engine.specs.Accepted.{Breaks, IsAccepted}
 abbrev pub input_ports : Spec → List (List ℕ)
 input_ports spec = ports_of (codes "i_") (input_names spec.inputs)
 
--- output n is 1 in row k: an action's where a derivation of main over the vectors since the last reset ends at it, and a
--- level's where its value after the row is 1
+-- output n is 1 in row k: an action's where a derivation of main over the vectors since the last reset ends at it, and
+-- a level's where its value after the row is 1
 abbrev pub is_due : Spec → List Entry → ℕ → ℕ → Bool
 is_due spec entries = output_due (expanded spec) (length (action_names spec.actions)) (level_plan spec) entries
 

@@ -14,11 +14,11 @@ use vlog_write::write_netlist;
 pub fn compile(alloc: Global, text: &[u8], out: &mut Vec<u8>) -> Result<(), EngineFail>
     ensures { Compiles text.now out.old.items out.new.items result }
 {
-    let net = match controller_of_text(alloc, text) {
-        Ok(net) => net,
+    let made = match controller_of_text(alloc, text) {
+        Ok(made) => made,
         Err(fail) => return Err(fail),
     };
-    match write_netlist(alloc, &net, out) {
+    match write_netlist(alloc, &made.net, out) {
         Ok(()) => Ok(()),
         Err(_) => Err(EngineFail::Memory),
     }

@@ -10,6 +10,7 @@ mod ExprsRead
 mod LinePieces
 mod LinesRead
 mod LinePhrases
+mod SecondVersion
 mod Whole
-mod Plain
+pub mod Plain
 mod Examples

@@ -1,5 +1,5 @@
 -- The canonical text reads back.
-use Rattle.std.proofs.Common.{◌≡◌, ℕ, ◌≤◌, List, [], length, Bool, Some, Ok, refl, sym, ap, subst, ◌∙◌}
+use Rattle.std.proofs.Common.{◌≡◌, ℕ, ◌≤◌, List, [], length, Bool, true, Some, Ok, refl, sym, ap, subst, ◌∙◌}
 use Rattle.pbs_ast.specs.declared.syntax.Spec.{Spec}
 use Rattle.pbs_text.specs.declared.token.Token.{Token}
 use Rattle.pbs_text.specs.Grammar.{TextPhrase, OfVersion, text_tokens}
@@ -13,7 +13,7 @@ use Rattle.pbs_ast.specs.Bare.{bare}
 use Rattle.pbs_grammar.proofs.Phrases.{walk-text}
 use Rattle.pbs_grammar.proofs.Exact.{reading_says, reading_is}
 use Rattle.pbs_print.specs.Canonical.{canonical}
-use Rattle.pbs_print.specs.Written.{IsWritten, ReadsBack}
+use Rattle.pbs_print.specs.Written.{IsWritten, ReadsBack, of_version_2}
 use Rattle.pbs_grammar.proofs.Nesting.{Shallow, text_shallow, shallow_text}
 use Rattle.pbs_print.proofs.TextPieces.{text, placed, lex-text, Stands, stands, flat_shallow}
 use Rattle.pbs_lex.proofs.Found.{tokens_found}
@@ -21,6 +21,7 @@ use Rattle.pbs_print.proofs.Proper.{Proper, are_proper}
 use Rattle.pbs_print.proofs.LinePieces.{spec_pieces, text-spec, SpecIs, spec-reads, spec-flat}
 use Rattle.pbs_print.proofs.LinesRead.{spec_is_read}
 use Rattle.pbs_print.proofs.LinePhrases.{finds_spec}
+use Rattle.pbs_print.proofs.SecondVersion.{spec_second}
 use Rattle.pbs_print.proofs.Plain.{bare-plain, canonical-bare}
 
 -- what is written can be written so
@@ -81,3 +82,14 @@ read_reads_back bytes spec s short =
     let same : canonical (bare spec) ≡ canonical spec = canonical-bare spec in
     let x = written_reads_back (bare spec) w (subst (λ t. length t ≤ 1048576) (sym same) short) in
     (x.0, subst (λ t. StandsFor t x.0) same x.1, x.2 ∙ bare-plain spec)
+
+-- and can be written in version 2
+pub second_reads_back : (bytes : List ℕ) (spec : Spec) → StandsFor bytes (bare spec)
+    → length (canonical (of_version_2 spec)) ≤ 1048576 → ReadsBack (of_version_2 spec)
+second_reads_back bytes spec s short =
+    let next : Spec = of_version_2 spec in
+    let x = written_is bytes s.found s.phrase s.found_is s.is_read in
+    let is : SpecIs true (bare next) = spec_second x.0 (bare spec) (subst (SpecIs x.0) (sym s.spec_is) x.1) in
+    let same : canonical (bare next) ≡ canonical next = canonical-bare next in
+    let y = reads_back true (bare next) is (subst (λ t. length t ≤ 1048576) (sym same) short) in
+    (y.0, subst (λ t. StandsFor t y.0) same y.1, y.2 ∙ bare-plain next)

@@ -19,6 +19,10 @@ pub record IsWritten (spec : Spec) : Type 0 where
   pub is_read : IsRead found phrase
   pub spec_is : spec ≡ text_spec text phrase
 
+-- the specification as one of version 2
+abbrev pub of_version_2 : Spec → Spec
+of_version_2 spec = record spec { version = 2 }
+
 -- the canonical text stands for the same specification apart from spans
 abbrev pub ReadsBack : Spec → Type 0
 ReadsBack spec = (again : Spec) × StandsFor (canonical spec) again × (unspanned again ≡ unspanned spec)

@@ -4,7 +4,7 @@ ghost use Rattle.pbs_ast.specs.declared.syntax.Spec.{Spec};
 ghost use Rattle.pbs_text.specs.Answers.{StandsFor};
 ghost use Rattle.pbs_ast.specs.Bare.{bare};
 ghost use Rattle.pbs_print.specs.Canonical.{canonical};
-ghost use Rattle.pbs_print.specs.Written.{IsWritten, ReadsBack};
+ghost use Rattle.pbs_print.specs.Written.{IsWritten, ReadsBack, of_version_2};
 
 /// A canonical text that isn't too long stands for the same specification apart from spans.
 pub fn canonical_reads_back()
@@ -14,4 +14,8 @@ pub fn canonical_reads_back()
     // Of what `read_spec` gives.
     ensures read { (bytes : List ℕ) (spec : Spec) → StandsFor bytes (bare spec) → length (canonical spec) ≤ 1048576
         → ReadsBack spec }
+
+    // Of what `read_spec` gives, taken as one of version 2.
+    ensures second { (bytes : List ℕ) (spec : Spec) → StandsFor bytes (bare spec)
+        → length (canonical (of_version_2 spec)) ≤ 1048576 → ReadsBack (of_version_2 spec) }
 {}

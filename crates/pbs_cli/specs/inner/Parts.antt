@@ -13,16 +13,17 @@ use Rattle.pbs_io.specs.Taken.{TakesAtMost}
 use Rattle.pbs_io.specs.Load.{HasFailed}
 use Rattle.net_trace.specs.Outcomes.{Outcome}
 use Rattle.net_trace.specs.Taken.{TakesLittle}
-use Rattle.net_trace.specs.Endings.{Task, trace_text, Wrote, CutShort, Stopped, ReadFailed, RunEnds, TaskEnds, HasTrace}
+use Rattle.net_trace.specs.Endings.{Task, trace_text, Wrote, CutShort, Stopped, ReadFailed, RunEnds, TaskEnds}
 use Rattle.net_trace.specs.Endings.{lines_with, lines_of}
 use Rattle.net_trace.specs.declared.fail.RunFail.{RunFail}
 use Rattle.net_trace.specs.declared.fail.RunFail.TheVariants as fails
-use Rattle.pbs_cli.specs.Words.{Job, Check, Compile, Sim, Trace, Command, Run, Usage}
+use Rattle.pbs_cli.specs.Words.{Job, Check, Compile, Map, Migrate, Sim, Trace, Command, Run, Soak, Usage}
 use Rattle.pbs_cli.specs.Answers.{Defines, DueRows, HasNeeded, NeedsFile, NeedsNoSecond, ReadToEnd, task_of, most_of}
 use Rattle.pbs_cli.specs.Answers.{first_of, first_most, trace_of, texts_with, texts_of}
 use Rattle.pbs_cli.specs.declared.command.Job as words
 use Rattle.pbs_cli.specs.declared.command.Job.TheVariants as word
 use Rattle.pbs_cli.specs.declared.command.Command as line
+use Rattle.pbs_cli.specs.declared.command.Command.TheVariants as command
 use Rattle.pbs_cli.specs.declared.status.Status.{Status}
 use Rattle.pbs_cli.specs.declared.status.Status.TheVariants as status
 
@@ -32,18 +33,28 @@ use Rattle.pbs_cli.specs.declared.status.Status.TheVariants as status
 abbrev pub job_meant : words.Job → Job
 job_meant word.Check = Check
 job_meant word.Compile = Compile
+job_meant word.Map = Map
+job_meant word.Migrate = Migrate
 job_meant (word.Sim name) = Sim name.now
 job_meant (word.Trace name) = Trace name.now
 
 abbrev pub meant : Option line.Command → Command
-meant (Some command) = Run (job_meant command.job) command.first.now
+meant (Some (command.Run job first)) = Run (job_meant job) first.now
+meant (Some (command.Soak n)) = Soak n
 meant None = Usage
+
+-- the number of a soak is small
+abbrev pub IsFew : line.Command → Type 0
+IsFew (command.Run job first) = ⊤
+IsFew (command.Soak n) = n ≤ 1000
 
 -- ---- the first file
 
 abbrev pub subject_of : Job → Subject
 subject_of Check = subject.Spec
 subject_of Compile = subject.Spec
+subject_of Map = subject.Spec
+subject_of Migrate = subject.Spec
 subject_of (Sim name) = subject.Netlist
 subject_of (Trace name) = subject.Spec
 
@@ -147,7 +158,7 @@ Ends command shelf shelf_now sink sink_now status.Memory =
 
 pub record EndsCommand (command : Command) (shelf shelf_now : ShelfState) (sink sink_now : SinkState)
     (end : Status) : Type 0 where
-  pub needed : NeedsFile command
+  pub needed : end ≡ status.ReadFault → NeedsFile command
   pub ends : Ends command shelf shelf_now sink sink_now end
   pub ended : end ≡ status.Accepted → ReadToEnd command shelf_now
   pub second : ForSome shelf.files (λ files. NeedsNoSecond command files → shelf_now.slots 1 ≡ shelf.slots 1)

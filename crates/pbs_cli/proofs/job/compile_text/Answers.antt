@@ -1,5 +1,4 @@
-use Rattle.std.proofs.Common.{◌++◌, ◌≡◌, Err, None, ap, subst, sym, ◌∙◌}
-use Rattle.net_trace.specs.Outcomes.{Outcome}
+use Rattle.std.proofs.Common.{◌++◌, Err, None, ap, subst, sym, ◌∙◌}
 use Rattle.pbs_engine.specs.Right.{Compiles}
 use Rattle.pbs_engine.specs.declared.fail.EngineFail.TheVariants as fails
 use Rattle.pbs_cli.specs.Answers.{Compiled, OnVerilog, OnNoVerilog}

@@ -1,6 +1,5 @@
 use Rattle.std.proofs.Common.{ap}
-use Rattle.pbs_io.specs.Outside.{ShelfState}
-use Rattle.pbs_cli.specs.Answers.{Checks, Compiled}
+use Rattle.pbs_cli.specs.Answers.{Checks, Compiled, Mapped, Migrated}
 use Rattle.pbs_cli.proofs.JobLemmas.{alone_does}
 use Rattle.pbs_cli.proofs.job.do_job.Goals as goal
 
@@ -14,6 +13,18 @@ returns-in-Compile g c =
     rw c.in-Compile.is (alone_does Compiled c.args.text.now (g.S.Shelf.state c.args.shelf.now)
     (g.K.Sink.state c.args.out.now) (g.K.Sink.state c.compile_text.new.out) c.compile_text.result
     c.compile_text.ensures)
+
+pub returns-in-Map : goal.returns-in-Map
+returns-in-Map g c =
+    rw c.in-Map.is (alone_does Mapped c.args.text.now (g.S.Shelf.state c.args.shelf.now)
+    (g.K.Sink.state c.args.out.now) (g.K.Sink.state c.map_text.new.out) c.map_text.result
+    c.map_text.ensures)
+
+pub returns-in-Migrate : goal.returns-in-Migrate
+returns-in-Migrate g c =
+    rw c.in-Migrate.is (alone_does Migrated c.args.text.now (g.S.Shelf.state c.args.shelf.now)
+    (g.K.Sink.state c.args.out.now) (g.K.Sink.state c.migrate_text.new.out) c.migrate_text.result
+    c.migrate_text.ensures)
 
 pub returns-in-Sim : goal.returns-in-Sim
 returns-in-Sim g c =

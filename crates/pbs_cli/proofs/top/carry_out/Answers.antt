@@ -1,9 +1,10 @@
-use Rattle.pbs_cli.specs.inner.Parts.{job_meant}
-use Rattle.pbs_cli.proofs.RunLemmas.{finishes}
 use Rattle.pbs_cli.proofs.top.carry_out.Goals as goal
 
-pub returns : goal.returns
-returns g c =
-    finishes (job_meant c.args.command.now.job) c.args.command.now.first.now (g.S.Shelf.state c.args.shelf.now)
-    (g.S.Shelf.state c.attempt-end.new.shelf) (g.K.Sink.state c.args.out.now) (g.K.Sink.state c.attempt-end.new.out)
-    (g.K.Sink.state c.finish.new.out) c.attempt-end.result c.finish.result c.attempt-end.ensures c.finish.ensures
+pub returns-in-Run : goal.returns-in-Run
+returns-in-Run g c = rw c.in-Run.is c.run_job.ensures
+
+pub returns-in-Soak : goal.returns-in-Soak
+returns-in-Soak g c = rw c.in-Soak.is (c.run_soak.ensures (g.S.Shelf.state c.args.shelf.now))
+
+pub run_soak-requires : goal.run_soak-requires
+run_soak-requires g c = rw c.in-Soak.is at c.requires

@@ -6,5 +6,5 @@ returns-in-Err c = not_made c.args.text.now c.args.out.now.items c.in-Err.fail c
 
 pub returns-in-Ok-write_netlist : goal.returns-in-Ok-write_netlist
 returns-in-Ok-write_netlist c =
-    compiled c.args.text.now c.args.out.now.items c.write_netlist.new.out.items c.in-Ok.net c.in-Ok.ensures
+    compiled c.args.text.now c.args.out.now.items c.write_netlist.new.out.items c.in-Ok.made c.in-Ok.ensures
     c.in-Ok-write_netlist.ensures.ok

@@ -18,5 +18,5 @@ realize-requires-clause-scopes c = no_scope_breaks c.args.text.now c.args.accept
 
 pub returns-in-Ok : goal.returns-in-Ok
 returns-in-Ok c =
-    is_controller c.args.text.now c.args.accepted.now c.in-Ok.net c.requires c.in-Ok.ensures.realizes
+    is_controller c.args.text.now c.args.accepted.now c.in-Ok.made c.requires c.in-Ok.ensures.realizes
     c.in-Ok.ensures.stands

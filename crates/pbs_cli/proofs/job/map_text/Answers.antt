@@ -1,0 +1,31 @@
+use Rattle.std.proofs.Common.{◌++◌, Err, None, ap, subst, sym, ◌∙◌}
+use Rattle.pbs_engine.specs.Right.{Maps}
+use Rattle.pbs_engine.specs.declared.fail.EngineFail.TheVariants as fails
+use Rattle.pbs_cli.specs.Answers.{Mapped, OnMap, OnNoMap}
+use Rattle.pbs_cli.proofs.JobLemmas.{text_written, text_cut, text_refused}
+use Rattle.pbs_cli.proofs.job.map_text.Goals as goal
+
+pub returns-in-Ok-write_all : goal.returns-in-Ok-write_all
+returns-in-Ok-write_all g c =
+    let made = c.in-Ok.ensures in
+    let same = made.2 ∙ ap (λ l. l ++ made.0) c.new-lines.ensures.items in
+    text_written (Mapped c.args.text.now) c.map.new.out.items (g.K.Sink.state c.args.out.now)
+    (g.K.Sink.state c.write_all.new.sink) _
+    (subst (λ l. Mapped c.args.text.now (record { lines = l; refusal = None })) (sym same) (OnMap made.1))
+    (rw c.as_slice.ensures.value at c.in-Ok-write_all.ensures)
+
+pub returns-in-Ok : goal.returns-in-Ok
+returns-in-Ok g c =
+    let made = c.in-Ok.ensures in
+    let same = made.2 ∙ ap (λ l. l ++ made.0) c.new-lines.ensures.items in
+    text_cut (Mapped c.args.text.now) c.map.new.out.items (g.K.Sink.state c.args.out.now)
+    (g.K.Sink.state c.write_all.new.sink) _
+    (subst (λ l. Mapped c.args.text.now (record { lines = l; refusal = None })) (sym same) (OnMap made.1))
+    (rw c.as_slice.ensures.value at c.in-Err.ensures)
+
+pub returns-in-Err-Refused : goal.returns-in-Err-Refused
+returns-in-Err-Refused g c =
+    let not_mapped : Maps c.args.text.now c.new-lines.result.items c.map.new.out.items
+    (Err (fails.Refused c.in-Err-Refused.refusal)) = rw c.in-Err-Refused.field-0-is at c.in-Err-Refused.ensures in
+    text_refused (Mapped c.args.text.now) c.in-Err-Refused.refusal (g.K.Sink.state c.args.out.now)
+    (OnNoMap not_mapped.0)
