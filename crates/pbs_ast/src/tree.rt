@@ -1,7 +1,7 @@
 // The expanded tree: docs/LANGUAGE.md, "Expansion".
-ghost use Rattle.std.specs.Prelude.{◌≡◌, IsTrue};
+ghost use Rattle.std.specs.Prelude.{◌≡◌, ◌≤◌, IsTrue};
 ghost use Rattle.pbs_ast.specs.Trees.{tree_of, nullable, has_terminal};
-ghost use Rattle.pbs_ast.specs.Sound.{first_wide, inputs_below, or_else};
+ghost use Rattle.pbs_ast.specs.Sound.{first_wide, inputs_below, or_else, place_count};
 
 use bool_terms::Term;
 use pbs_base::Span;
@@ -43,6 +43,24 @@ impl Tree {
             TreeKind::Choice(left, right) => left.nullable() || right.nullable(),
             TreeKind::Hold(_, body) => body.nullable(),
             TreeKind::Scope(_, body, _, _) => body.nullable(),
+        }
+    }
+
+    /// How many places the tree has.
+    pub fn count_places(&self) -> usize
+        requires { place_count (tree_of self.now) ≤ 4096 }
+        ensures { result ≡ place_count (tree_of self.now) }
+    {
+        match &self.kind {
+            TreeKind::Empty | TreeKind::Action(_) => 0,
+            TreeKind::Terminal(_, _) => 1,
+            TreeKind::Seq(left, right) | TreeKind::Choice(left, right) => {
+                left.count_places() + right.count_places()
+            }
+            TreeKind::Star(body) | TreeKind::Hold(_, body) => body.count_places(),
+            TreeKind::Scope(_, body, trap, after) => {
+                body.count_places() + trap.count_places() + after.count_places()
+            }
         }
     }
 

@@ -1,9 +1,8 @@
 // Expressions.
-ghost use Rattle.std.specs.Prelude.{ℕ, ◌≡◌, ◌≤◌, ◌<◌, ◌+◌, ◌∷◌, ◌++◌, [], length, true, IfOk, IfErr, MatchOption};
+ghost use Rattle.std.specs.Prelude.{◌≡◌, ◌≤◌, ◌<◌, ◌∷◌, length, IfOk, IfErr};
 ghost use Rattle.pbs_ast.specs.Bare.{bare_term, bare_expr, expr};
 ghost use Rattle.pbs_text.specs.Trees.{joined, operator_node, repeat_node, scope_node, word_at};
 ghost use Rattle.pbs_text.specs.Grammar.{token};
-ghost use Rattle.pbs_text.specs.places.Places.{WantsItem};
 ghost use Rattle.pbs_text.specs.places.Holes.{item_nesting};
 ghost use Rattle.pbs_descent.specs.Descent.{Stops, ReadsGroup, StopsGroup, ReadsPrim, ReadsItem, StopsItem, ReadsSeq};
 ghost use Rattle.pbs_descent.specs.Descent.{StopsSeq, ReadsExpr, StopsExpr, ReadsBounds, StopsBounds, ReadsGuard};
@@ -12,7 +11,7 @@ ghost use Rattle.pbs_text.specs.declared.token.TokenKind.TheVariants.{Name, Open
 ghost use Rattle.pbs_text.specs.declared.token.TokenKind.TheVariants.{Comma, Bar};
 
 use crate::common::{
-    MAX_NESTING, behind, expect, front, numeral, operator, refused, second, stop, word,
+    MAX_NESTING, behind, expect, front, let_go, numeral, operator, refused, second, stop, word,
 };
 use crate::mark::Mark;
 use crate::nodes::{hold_of, operator_of, repeat_of, scope_of};
@@ -80,7 +79,7 @@ fn terminal<'a>(
 {
     let (inner, rest) = term(alloc, bytes, two, rest, depth, end)?;
     let Some((close, rest)) = behind(rest, Mark::CloseSquareMark) else {
-        return Err(stop(rest, end));
+        return Err(let_go(inner, stop(rest, end)));
     };
     let extent = joined(at, close);
     let tree = Expr {
@@ -145,10 +144,10 @@ fn guard<'a>(
     let (_, rest) = expect(tokens, Mark::OpenSquareMark, end)?;
     let (inner, rest) = term(alloc, bytes, two, rest, depth, end)?;
     let Some((_, rest)) = behind(rest, Mark::CloseSquareMark) else {
-        return Err(stop(rest, end));
+        return Err(let_go(inner, stop(rest, end)));
     };
     let Some((_, rest)) = behind(rest, Mark::ColonMark) else {
-        return Err(stop(rest, end));
+        return Err(let_go(inner, stop(rest, end)));
     };
     Ok((inner, rest))
 }
@@ -184,7 +183,7 @@ fn group<'a>(
     }
     let (inner, rest) = expr(alloc, bytes, two, rest, depth + 1, end)?;
     let Some((close, rest)) = behind(rest, Mark::CloseRoundMark) else {
-        return Err(stop(rest, end));
+        return Err(let_go(inner, stop(rest, end)));
     };
     let extent = joined(at, close);
     Ok((
@@ -213,7 +212,10 @@ fn hold<'a>(
     ensures err { IfErr result (λ e. StopsItem two end depth (token HoldWord at ∷ rest.now) e) }
 {
     let (condition, rest) = guard(alloc, bytes, two, rest, depth, end)?;
-    let (body, rest) = group(alloc, bytes, two, rest, depth, end)?;
+    let (body, rest) = match group(alloc, bytes, two, rest, depth, end) {
+        Ok(read) => read,
+        Err(answer) => return Err(let_go(condition, answer)),
+    };
     let extent = joined(at, body.extent);
     let tree = hold_of(alloc, condition, body.tree, extent)?;
     Ok((Part { tree, extent }, rest))
@@ -249,9 +251,14 @@ fn trap_and_after<'a>(
 {
     let (_, rest) = expect(tokens, Mark::Abort, end)?;
     let (trap, rest) = group(alloc, bytes, two, rest, depth, end)?;
-    let (_, rest) = expect(rest, Mark::Then, end)?;
-    let (after, rest) = group(alloc, bytes, two, rest, depth, end)?;
-    Ok((trap, after, rest))
+    let (_, rest) = match expect(rest, Mark::Then, end) {
+        Ok(found) => found,
+        Err(answer) => return Err(let_go(trap, answer)),
+    };
+    match group(alloc, bytes, two, rest, depth, end) {
+        Ok((after, rest)) => Ok((trap, after, rest)),
+        Err(answer) => Err(let_go(trap, answer)),
+    }
 }
 
 // group 'abort' group 'then' group behind a 'try'
@@ -271,8 +278,10 @@ fn scope<'a>(
     ensures err { IfErr result (λ e. StopsItem two end depth (token TryWord at ∷ rest.now) e) }
 {
     let (body, rest) = group(alloc, bytes, two, rest, depth, end)?;
-    let (trap, after, rest) = trap_and_after(alloc, bytes, two, rest, depth, end)?;
-    Ok((scoped(alloc, at, body, trap, after)?, rest))
+    match trap_and_after(alloc, bytes, two, rest, depth, end) {
+        Ok((trap, after, rest)) => Ok((scoped(alloc, at, body, trap, after)?, rest)),
+        Err(answer) => Err(let_go(body, answer)),
+    }
 }
 
 // prim := '[' term ']' | '{' name '}' | name | group | 'hold' .. | 'try' ..
@@ -347,8 +356,10 @@ fn item<'a>(
 {
     let (inner, rest) = prim(alloc, bytes, two, tokens, depth, end)?;
     if let Some((_, rest)) = second(two, rest, Mark::OpenCurlyMark) {
-        let (copies, rest) = bounds(rest, end)?;
-        return Ok((counted(alloc, inner, copies)?, rest));
+        return match bounds(rest, end) {
+            Ok((copies, rest)) => Ok((counted(alloc, inner, copies)?, rest)),
+            Err(answer) => Err(let_go(inner, answer)),
+        };
     }
     let Some((op, at, rest)) = operator(rest) else {
         return Ok((inner, rest));

@@ -1,12 +1,20 @@
 // The nodes of an expression.
-ghost use Rattle.std.specs.Prelude.{ℕ, ◌≡◌, IfOk, IfErr};
+ghost use Rattle.std.specs.Prelude.{◌≡◌, IfOk, IfErr};
 ghost use Rattle.pbs_ast.specs.Bare.{bare_expr, bare_term, expr};
 ghost use Rattle.pbs_text.specs.Trees.{operator_node, repeat_node, hold_node, scope_node};
 
+use crate::common::let_go;
 use pbs_ast::{Expr, Kind, SpecTerm};
 use pbs_base::Span;
 use pbs_text::{Operator, ReadSpec};
 use std::alloc::Global;
+
+fn boxed(alloc: Global, body: Expr) -> Result<Box<Expr>, ReadSpec>
+    ensures value { IfOk result (λ b. b.value ≡ body) }
+    ensures memory { IfErr result (λ e. e ≡ ReadSpec.Memory) }
+{
+    Ok(Box::new(alloc, body)?)
+}
 
 pub(crate) fn operator_of(
     alloc: Global,
@@ -17,7 +25,7 @@ pub(crate) fn operator_of(
     ensures value { IfOk result (λ e. bare_expr e ≡ expr span (operator_node operator (bare_expr body))) }
     ensures memory { IfErr result (λ e. e ≡ ReadSpec.Memory) }
 {
-    let body = Box::new(alloc, body)?;
+    let body = boxed(alloc, body)?;
     match operator {
         Operator::StarOp => Ok(Expr {
             span,
@@ -46,7 +54,7 @@ pub(crate) fn repeat_of(
 {
     Ok(Expr {
         span,
-        kind: Kind::Repeat(Box::new(alloc, body)?, least, most),
+        kind: Kind::Repeat(boxed(alloc, body)?, least, most),
     })
 }
 
@@ -59,20 +67,27 @@ pub(crate) fn hold_of(
     ensures value { IfOk result (λ e. bare_expr e ≡ expr span (hold_node (bare_term condition) (bare_expr body))) }
     ensures memory { IfErr result (λ e. e ≡ ReadSpec.Memory) }
 {
-    let body = Box::new(alloc, body)?;
-    Ok(Expr {
-        span,
-        kind: Kind::Hold(condition, body),
-    })
+    match boxed(alloc, body) {
+        Ok(body) => Ok(Expr {
+            span,
+            kind: Kind::Hold(condition, body),
+        }),
+        Err(answer) => Err(let_go(condition, answer)),
+    }
 }
 
 fn boxed_pair(alloc: Global, first: Expr, second: Expr) -> Result<(Box<Expr>, Box<Expr>), ReadSpec>
     ensures value { IfOk result (λ x. (x.0.value ≡ first) × (x.1.value ≡ second)) }
     ensures memory { IfErr result (λ e. e ≡ ReadSpec.Memory) }
 {
-    let first = Box::new(alloc, first)?;
-    let second = Box::new(alloc, second)?;
-    Ok((first, second))
+    let first = match boxed(alloc, first) {
+        Ok(first) => first,
+        Err(answer) => return Err(let_go(second, answer)),
+    };
+    match boxed(alloc, second) {
+        Ok(second) => Ok((first, second)),
+        Err(answer) => Err(let_go(first, answer)),
+    }
 }
 
 pub(crate) fn scope_of(
@@ -86,10 +101,15 @@ pub(crate) fn scope_of(
         (scope_node (bare_expr body) (bare_expr trap) (bare_expr after))) }
     ensures memory { IfErr result (λ e. e ≡ ReadSpec.Memory) }
 {
-    let (body, trap) = boxed_pair(alloc, body, trap)?;
-    let after = Box::new(alloc, after)?;
-    Ok(Expr {
-        span,
-        kind: Kind::Scope(body, trap, after),
-    })
+    let (body, trap) = match boxed_pair(alloc, body, trap) {
+        Ok(pair) => pair,
+        Err(answer) => return Err(let_go(after, answer)),
+    };
+    match boxed(alloc, after) {
+        Ok(after) => Ok(Expr {
+            span,
+            kind: Kind::Scope(body, trap, after),
+        }),
+        Err(answer) => Err(let_go(body, let_go(trap, answer))),
+    }
 }

@@ -1,15 +1,12 @@
 // Terms.
-ghost use Rattle.std.specs.Prelude.{ℕ, ◌≡◌, ◌≤◌, ◌<◌, ◌+◌, ◌∷◌, ◌++◌, [], length, true, IfOk, IfErr, MatchOption};
-ghost use Rattle.pbs_ast.specs.declared.syntax.SpecTerm as node;
+ghost use Rattle.std.specs.Prelude.{ℕ, ◌≡◌, ◌≤◌, ◌∷◌, true, IfOk, IfErr};
 ghost use Rattle.pbs_ast.specs.Bare.{bare_term};
 ghost use Rattle.pbs_text.specs.Grammar.{token};
-ghost use Rattle.pbs_text.specs.Trees.{unit_tree};
-ghost use Rattle.pbs_descent.specs.Marks.{kind_of};
 ghost use Rattle.pbs_descent.specs.Descent.{ReadsUnit, StopsUnit, ReadsAll, StopsAll, ReadsTerm, StopsTerm, BeginsWith};
-ghost use Rattle.pbs_descent.specs.Descent.{front_refusal, negated_term};
+ghost use Rattle.pbs_descent.specs.Descent.{negated_term};
 ghost use Rattle.pbs_text.specs.declared.token.TokenKind.TheVariants.{Name, Equals, Tilde, OpenRound, Ampersand, Bar};
 
-use crate::common::{MAX_NESTING, behind, front, numeral, refused, second, stop, word};
+use crate::common::{MAX_NESTING, behind, front, let_go, numeral, refused, second, stop, word};
 use crate::mark::Mark;
 use pbs_ast::SpecTerm;
 use pbs_base::{Listed, Span};
@@ -138,7 +135,7 @@ fn bracket<'a>(
     }
     let (inner, rest) = term(alloc, bytes, two, rest, depth + 1, end)?;
     let Some((_, rest)) = behind(rest, Mark::CloseRoundMark) else {
-        return Err(stop(rest, end));
+        return Err(let_go(inner, stop(rest, end)));
     };
     Ok((inner, rest))
 }

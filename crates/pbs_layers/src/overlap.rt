@@ -1,11 +1,8 @@
 // The overlap rule, and which places are together.
-ghost use Rattle.std.specs.Prelude.{◌≡◌, ◌≤◌, ◌<◌};
-ghost use Rattle.pbs_ast.specs.Trees.{tree_of};
-ghost use Rattle.pbs_ast.specs.Sound.{place_count};
+ghost use Rattle.std.specs.Prelude.{◌≤◌, ◌<◌};
 
 use crate::front::expanded;
 use crate::stop::Stop;
-use pbs_ast::{Tree, TreeKind};
 use pbs_edges::edges;
 use pbs_overlap::{Pairs, check_overlap};
 use std::alloc::{AllocError, Global};
@@ -17,20 +14,6 @@ pub(crate) fn answer_overlap(alloc: Global, text: &[u8]) -> Result<Vec<u8>, Stop
     let _pairs = check_overlap(alloc, &main, &edges)?;
     let count = edges.follows.len();
     Ok(format!(in alloc; "edges {count}\n")?.into_bytes())
-}
-
-// How many places the tree has.
-fn count_places(tree: &Tree) -> u32
-    requires { place_count (tree_of tree.now) ≤ 4096 }
-    ensures { result ≡ place_count (tree_of tree.now) }
-{
-    match &tree.kind {
-        TreeKind::Empty | TreeKind::Action(_) => 0,
-        TreeKind::Terminal(_, _) => 1,
-        TreeKind::Seq(e, f) | TreeKind::Choice(e, f) => count_places(e) + count_places(f),
-        TreeKind::Star(e) | TreeKind::Hold(_, e) => count_places(e),
-        TreeKind::Scope(_, e, x, h) => count_places(e) + count_places(x) + count_places(h),
-    }
 }
 
 fn put_row(out: &mut String, pairs: &Pairs, p: u32, places: u32) -> Result<(), AllocError>
@@ -58,6 +41,6 @@ pub(crate) fn answer_together(alloc: Global, text: &[u8]) -> Result<Vec<u8>, Sto
     let edges = edges(alloc, &main)?;
     let pairs = check_overlap(alloc, &main, &edges)?;
     let mut out = String::new(alloc);
-    put_rows(&mut out, &pairs, count_places(&main.tree))?;
+    put_rows(&mut out, &pairs, main.tree.count_places() as u32)?;
     Ok(out.into_bytes())
 }

@@ -8,8 +8,8 @@ use std::alloc::Global;
 use std::test::Fail;
 use trace_text::{Head, Row, TraceReader};
 
-/// A piece of a text, whether it is the last one, how many of its bytes a call uses, what the call answers, and how many
-/// bytes the reader has then used.
+/// A piece of a text, whether it is the last one, how many of its bytes a call uses, what the call answers, and how
+/// many bytes the reader has then used.
 type Call<A> = (&'static [u8], bool, usize, A, usize);
 
 // Whether these calls for rows use and answer so.

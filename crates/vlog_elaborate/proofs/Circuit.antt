@@ -22,7 +22,8 @@ use Rattle.vlog_order.proofs.Placing.{reordered_earlier}
 use Rattle.vlog_elaborate.proofs.NameLists.{map_at, filter_map_has, Differ, differ_filter, differ_apart}
 use Rattle.vlog_elaborate.proofs.Unbroken.{Unbroken, unbroken_has}
 use Rattle.vlog_elaborate.proofs.Counts.{few_inputs, few_outputs, few_registers}
-use Rattle.vlog_elaborate.proofs.Wired.{input_count, register_count, gate_count, gates_short, driver_there, drivers_apart}
+use Rattle.vlog_elaborate.proofs.Wired.{input_count, register_count, gate_count, gates_short, driver_there}
+use Rattle.vlog_elaborate.proofs.Wired.{drivers_apart}
 use Rattle.vlog_elaborate.proofs.Wired.{pin_there}
 use Rattle.vlog_elaborate.proofs.Wired.{register_there, output_driven}
 

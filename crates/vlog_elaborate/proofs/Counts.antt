@@ -19,7 +19,8 @@ use Rattle.vlog_text.specs.Standing.{inputs, outputs}
 use Rattle.vlog_text.specs.Standing.{registers}
 use Rattle.vlog_text.specs.Refusing.{declared}
 use Rattle.vlog_elaborate.proofs.NameLists.{Has}
-use Rattle.vlog_elaborate.proofs.NameLists.{same_word, word_is, any_has, has_any, has_filter, filter_has, has_map, map_at}
+use Rattle.vlog_elaborate.proofs.NameLists.{same_word, word_is, any_has, has_any, has_filter, filter_has, has_map}
+use Rattle.vlog_elaborate.proofs.NameLists.{map_at}
 use Rattle.vlog_elaborate.proofs.NameLists.{named_has}
 use Rattle.vlog_elaborate.proofs.NameLists.{differ_filter, differ_map, differ_distinct}
 use Rattle.vlog_elaborate.proofs.Unbroken.{Unbroken, declared_has, has_declared, register_driven}

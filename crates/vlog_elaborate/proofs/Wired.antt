@@ -35,10 +35,12 @@ use Rattle.vlog_text.specs.Refusing.{item_target, target_or, left_out}
 use Rattle.vlog_elaborate.proofs.NameLists.{Has}
 use Rattle.vlog_text.proofs.OrderLemmas.{some_at}
 use Rattle.vlog_order.proofs.Placing.{order_there}
-use Rattle.vlog_elaborate.proofs.NameLists.{same_word, word_is, has_any, map_at, filter_has, has_filter_map, filter_map_has}
+use Rattle.vlog_elaborate.proofs.NameLists.{same_word, word_is, has_any, map_at, filter_has, has_filter_map}
+use Rattle.vlog_elaborate.proofs.NameLists.{filter_map_has}
 use Rattle.vlog_elaborate.proofs.NameLists.{filter_map_long}
 use Rattle.vlog_elaborate.proofs.NameLists.{has_right, find_has, Stands, first_place, named_has}
-use Rattle.vlog_elaborate.proofs.Unbroken.{Unbroken, declared_has, has_declared, other_declared, gate_driven, input_listed}
+use Rattle.vlog_elaborate.proofs.Unbroken.{Unbroken, declared_has, has_declared, other_declared, gate_driven}
+use Rattle.vlog_elaborate.proofs.Unbroken.{input_listed}
 use Rattle.vlog_elaborate.proofs.Unbroken.{register_listed}
 
 -- ---- no gate is left out

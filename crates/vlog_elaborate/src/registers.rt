@@ -1,5 +1,5 @@
 // What each register takes, in the order of declaration.
-ghost use Rattle.std.specs.Prelude.{◌≡◌, ◌≤◌, [], ◌∷◌, ◌++◌, IfOk, OnOk, map, filter, length, if◌then◌else◌};
+ghost use Rattle.std.specs.Prelude.{◌≡◌, ◌≤◌, [], ◌∷◌, ◌++◌, IfOk, OnOk, map, length, if◌then◌else◌};
 ghost use Rattle.vlog_text.specs.declared.raw.RawDecl.{RawDecl as DeclItem};
 ghost use Rattle.vlog_text.specs.Standing.{is_reg, inputs, registers, register_wire};
 ghost use Rattle.vlog_elaborate.specs.inner.Parts.{IsChecked, ArePlaces};

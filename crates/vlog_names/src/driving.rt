@@ -1,5 +1,5 @@
 // Rule 5: what is not an input has one driver, of its kind.
-ghost use Rattle.std.specs.Prelude.{◌≡◌, IfOk, Some, None, [], map, filter, not, ◌&&◌, ◌||◌, is_some};
+ghost use Rattle.std.specs.Prelude.{◌≡◌, IfOk, Some, None, map, filter, not, ◌&&◌, ◌||◌, is_some};
 ghost use Rattle.vlog_text.specs.declared.raw.RawDecl.{RawDecl as DeclItem};
 ghost use Rattle.vlog_text.specs.declared.raw.RawGate.{RawGate as GateItem};
 ghost use Rattle.vlog_text.specs.declared.raw.RawReg.{RawReg as RegItem};

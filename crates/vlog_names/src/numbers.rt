@@ -1,5 +1,5 @@
 // The numbers of inputs and registers.
-ghost use Rattle.std.specs.Prelude.{◌≡◌, ◌+◌, ◌<◌, ◌≤◌, IfOk, OnOk, Some, None, if◌then◌else◌, map, length};
+ghost use Rattle.std.specs.Prelude.{◌≡◌, ◌+◌, ◌<◌, IfOk, OnOk, Some, None, if◌then◌else◌, map, length};
 ghost use Rattle.std.specs.List.{filter_map};
 ghost use Rattle.vlog_text.specs.declared.raw.RawName.{RawName as Named};
 ghost use Rattle.vlog_text.specs.Standing.{is_reg};

@@ -1,5 +1,5 @@
 // Names with a fault, list by list.
-ghost use Rattle.std.specs.Prelude.{◌≡◌, map, filter, List};
+ghost use Rattle.std.specs.Prelude.{◌≡◌, map};
 ghost use Rattle.std.specs.List.{filter_map, flat_map};
 ghost use Rattle.vlog_text.specs.declared.raw.RawName.{RawName as Named};
 ghost use Rattle.vlog_text.specs.declared.raw.RawGate.{RawGate as GateItem};

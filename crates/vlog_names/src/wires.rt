@@ -1,5 +1,5 @@
 // What names stand for.
-ghost use Rattle.std.specs.Prelude.{◌≡◌, ◌<◌, ◌^◌, ℕ, List, IfOk, Some, map, min, unwrap_or};
+ghost use Rattle.std.specs.Prelude.{◌≡◌, ◌<◌, ℕ, IfOk, Some, map, min, unwrap_or};
 ghost use Rattle.vlog_text.specs.declared.raw.RawNetlist.{RawNetlist as Net};
 ghost use Rattle.vlog_text.specs.declared.raw.RawPin.{RawPin as PinItem};
 ghost use Rattle.vlog_text.specs.declared.raw.RawGate.{RawGate as GateItem};

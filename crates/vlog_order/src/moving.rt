@@ -1,6 +1,6 @@
 // Gates in another order, with the pins renumbered.
 
-ghost use Rattle.std.specs.Prelude.{◌≡◌, ℕ, ◌<◌, ◌^◌, length, map, replicate, IfOk, slice_get, slice_index, Some};
+ghost use Rattle.std.specs.Prelude.{◌≡◌, ℕ, ◌<◌, ◌^◌, length, replicate, IfOk, slice_get, slice_index, Some};
 ghost use Rattle.vlog_text.specs.Orders.{place_in, moved, reordered};
 ghost use Rattle.vlog_order.specs.Named.{AllNamed};
 

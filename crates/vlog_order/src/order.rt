@@ -3,10 +3,9 @@
 ghost use Rattle.std.specs.Prelude.{◌≡◌, ℕ, ◌<◌, Bool, true, false, [], length, replicate, IfOk, OnOk, IfSome};
 ghost use Rattle.std.specs.Prelude.{IfNone, slice_get, slice_set};
 ghost use Rattle.vlog_order.specs.declared.waiting.Waiter.{Waiter as WaiterValue};
-ghost use Rattle.std.specs.BTreeSet.{contains};
 ghost use Rattle.vlog_text.specs.Orders.{order_of};
 ghost use Rattle.vlog_order.specs.Named.{AllNamed};
-ghost use Rattle.vlog_order.specs.inner.Queues.{marked, SettledBetween, IsWaiter, IsReady, IsQueue, Popped, without};
+ghost use Rattle.vlog_order.specs.inner.Queues.{marked, SettledBetween, IsWaiter, IsQueue, Popped, without};
 ghost use Rattle.vlog_order.specs.inner.Queues.{wakes};
 
 use crate::waiting::{Waiter, Waiting};

@@ -21,10 +21,10 @@ fn first_taken(alloc: Global, text: &[u8]) -> Result<usize, Fail> {
 fn fronts_of_the_controller(rt: HostRuntime) -> Result<(), Fail> {
     let alloc = rt.alloc();
     assert!(rt; is_refused(alloc, b"", 3, 0, 0));
-    assert_eq!(rt; first_taken(alloc, HANDSHAKE_VERILOG)?, 1690);
+    assert_eq!(rt; first_taken(alloc, HANDSHAKE_VERILOG)?, 731);
     let mut cut = Vec::from_slice(alloc, HANDSHAKE_VERILOG)?;
     assert_eq!(rt; cut.pop(), Some(b'\n'));
-    assert_eq!(rt; cut.len(), 1690);
+    assert_eq!(rt; cut.len(), 731);
     assert_eq!(rt;
         written(alloc, cut.as_slice())?.as_slice(),
         HANDSHAKE_VERILOG

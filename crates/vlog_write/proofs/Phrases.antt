@@ -33,7 +33,8 @@ use Rattle.vlog_write.proofs.Shapes.{plain, word_of, bare_pin, bare_gate, bare_r
 use Rattle.vlog_write.proofs.Shapes.{written_gate, written_gates, written_reg, written_regs}
 use Rattle.vlog_write.proofs.Shapes.{all_decls, IsRawOf}
 use Rattle.vlog_write.proofs.LinePieces.{listed_pieces, end_pieces, decls_pieces, operand_piece, pins_pieces}
-use Rattle.vlog_write.proofs.LinePieces.{gate_pieces, gates_pieces, always_pieces, regs_pieces, last_pieces, later_decls}
+use Rattle.vlog_write.proofs.LinePieces.{gate_pieces, gates_pieces, always_pieces, regs_pieces, last_pieces}
+use Rattle.vlog_write.proofs.LinePieces.{later_decls}
 use Rattle.vlog_write.proofs.LinePieces.{items_pieces}
 use Rattle.vlog_write.proofs.LinePieces.{clock_pieces, all_pieces}
 

@@ -1,10 +1,9 @@
 // The whole text.
-ghost use Rattle.std.specs.Prelude.{◌≡◌, ◌++◌, OnOk, OnErr, List, map, codes, ℕ};
+ghost use Rattle.std.specs.Prelude.{◌≡◌, ◌++◌, OnOk, OnErr, map, codes};
 ghost use Rattle.std.specs.List.{flat_map};
 ghost use Rattle.net_core.specs.declared.netlist.Output.{Output as OutputValue};
 ghost use Rattle.vlog_text.specs.Emitted.{always_lines, declared, emitted, gate_lines, input_lines, listed};
 ghost use Rattle.vlog_text.specs.Emitted.{module_line, output_lines, reg_lines, wire_lines};
-ghost use Rattle.net_core.specs.Circuits.{output_names};
 
 use crate::lines::{
     put_always_line, put_declared, put_gate_line, put_listed, put_reg_line, put_wire_line,

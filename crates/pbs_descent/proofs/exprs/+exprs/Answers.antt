@@ -25,7 +25,7 @@ group-returns-in_err-inner-clause-err t c =
 
 pub group-returns-in_default-behind-2-clause-err : goal.group-returns-in_default-behind-2-clause-err
 group-returns-in_default-behind-2-clause-err t c =
-    rw c.stop-in_default-behind-2.ensures
+    rw (c.let_go.ensures, c.stop-in_default-behind-2.ensures)
     (group_unclosed _ _ _ _ c.in-Some.at _ _ _ _ _ c.if-depth-eq-MAX_NESTING.false c.requires c.in-Some.ensures
     c.in_default-behind.ensures
     c.in_ok-inner.ensures.ok c.in_ok-inner.ensures.no_comma c.in_ok-inner.ensures.no_bar c.in_default-behind-2.ensures)
@@ -45,8 +45,8 @@ hold-returns-in_err-condition-clause-err t c =
 
 pub hold-returns-clause-ok : goal.hold-returns-clause-ok
 hold-returns-clause-ok t c =
-    hold_read _ _ _ _ _ _ _ _ _ _ _ _ c.in_ok-body.body.extent c.joined-extent.ensures c.in_ok-tree.ensures.value
-    c.in_ok-condition.ensures.ok c.in_ok-condition.ensures.shorter c.in_ok-body.ensures.ok
+    hold_read _ _ _ _ _ _ _ _ _ _ _ _ c.in-Ok.read.0.extent c.joined-extent.ensures c.in_ok-tree.ensures.value
+    c.in_ok-condition.ensures.ok c.in_ok-condition.ensures.shorter c.in-Ok.ensures.ok
 
 pub item-returns-in_default-operator-clause-ok : goal.item-returns-in_default-operator-clause-ok
 item-returns-in_default-operator-clause-ok t c = item_plain _ _ _ _ _ _ _ _ c.in_default.ensures.none
@@ -104,21 +104,18 @@ pub prim-returns-in_ok-call-in-Name-clause-ok : goal.prim-returns-in_ok-call-in-
 prim-returns-in_ok-call-in-Name-clause-ok t c = prim_use _ _ _ _ _ _ c.in-Some.first _ _ c.in-Some.ensures c.in-Name.is
     c.in_ok-call-in-Name.ensures.value
 
-pub item-returns-in-Some-clause-ok : goal.item-returns-in-Some-clause-ok
-item-returns-in-Some-clause-ok t c =
-    item_counted _ _ _ _ _ _ _ _ _ _ c.in_ok-inner.inner.extent _ c.in-Some.field-0-0 c.in_ok-copies.copies.close
-    c.in_ok-copies.copies.least c.in_ok-copies.copies.most
-    c.in-Some.ensures.version c.in-Some.ensures.taken c.in_ok-counted.ensures.value c.in_ok-copies.ensures.ok
-    c.in_ok-inner.ensures.ok
+pub item-returns-in_ok-counted-in-Ok-clause-ok : goal.item-returns-in_ok-counted-in-Ok-clause-ok
+item-returns-in_ok-counted-in-Ok-clause-ok t c =
+    item_counted _ _ _ _ _ _ _ _ _ _ c.in_ok-inner.inner.extent _ c.in-Some.field-0-0 c.in-Ok.copies.close
+    c.in-Ok.copies.least c.in-Ok.copies.most c.in-Some.ensures.version c.in-Some.ensures.taken
+    c.in_ok-counted-in-Ok.ensures.value c.in-Ok.ensures.ok c.in_ok-inner.ensures.ok
 
-pub item-returns-in_err-copies-clause-err : goal.item-returns-in_err-copies-clause-err
-item-returns-in_err-copies-clause-err t c =
-    let p = err_from_is_err_and c.from_residual-in_err-copies.result c.from_residual-in_err-copies.ensures.1 in
-    rw (p.1, p.2)
+pub item-returns-in-Err-clause-err : goal.item-returns-in-Err-clause-err
+item-returns-in-Err-clause-err t c =
+    rw (c.let_go.ensures)
     (item_uncounted c.args.two c.args.bytes.now c.args.end c.args.depth c.args.tokens.now c.in_ok-inner.rest.now
-    c.in-Some.rest.now (bare_expr c.in_ok-inner.inner.tree) c.in_ok-inner.inner.extent
-    c.in-Some.field-0-0 c.in_err-copies.field-0.0 c.in-Some.ensures.version c.in-Some.ensures.taken
-    c.in_err-copies.ensures.err c.in_ok-inner.ensures.ok)
+    c.in-Some.rest.now (bare_expr c.in_ok-inner.inner.tree) c.in_ok-inner.inner.extent c.in-Some.field-0-0
+    c.in-Err.answer c.in-Some.ensures.version c.in-Some.ensures.taken c.in-Err.ensures.err c.in_ok-inner.ensures.ok)
 
 pub item-returns-clause-ok : goal.item-returns-clause-ok
 item-returns-clause-ok t c =
@@ -139,30 +136,28 @@ trap_and_after-returns-in_err-trap-clause-err t c =
     (trap_stops c.args.two c.args.end c.args.depth c.in_ok-rest.field-0-0 c.args.tokens.now c.in_ok-rest.rest.now
     c.in_err-trap.field-0.0 c.in_ok-rest.ensures.ok c.in_err-trap.ensures.err)
 
-pub trap_and_after-returns-in_err-rest-2-clause-err : goal.trap_and_after-returns-in_err-rest-2-clause-err
-trap_and_after-returns-in_err-rest-2-clause-err t c =
-    let p = err_from_is_err_and c.from_residual-in_err-rest-2.result c.from_residual-in_err-rest-2.ensures.1 in
-    rw (p.1, p.2)
+pub trap_and_after-returns-in-Err-clause-err : goal.trap_and_after-returns-in-Err-clause-err
+trap_and_after-returns-in-Err-clause-err t c =
+    rw (c.let_go.ensures)
     (trap_no_then c.args.two c.args.bytes.now c.args.end c.args.depth c.in_ok-rest.field-0-0 c.args.tokens.now
     c.in_ok-rest.rest.now c.in_ok-trap.rest.now (bare_expr c.in_ok-trap.trap.tree) c.in_ok-trap.trap.extent
-    c.in_err-rest-2.field-0.0 c.in_ok-rest.ensures.ok c.in_ok-trap.ensures.ok c.in_err-rest-2.ensures.err)
+    c.in-Err.answer c.in_ok-rest.ensures.ok c.in_ok-trap.ensures.ok c.in-Err.ensures.err)
 
-pub trap_and_after-returns-in_err-after-clause-err : goal.trap_and_after-returns-in_err-after-clause-err
-trap_and_after-returns-in_err-after-clause-err t c =
-    let p = err_from_is_err_and c.from_residual-in_err-after.result c.from_residual-in_err-after.ensures.1 in
-    rw (p.1, p.2)
+pub trap_and_after-returns-in-Err-group-clause-err : goal.trap_and_after-returns-in-Err-group-clause-err
+trap_and_after-returns-in-Err-group-clause-err t c =
+    rw (c.let_go-in-Err-group.ensures)
     (trap_after_stops c.args.two c.args.bytes.now c.args.end c.args.depth c.in_ok-rest.field-0-0
-    c.in_ok-rest-2.field-0-0 c.args.tokens.now c.in_ok-rest.rest.now c.in_ok-trap.rest.now c.in_ok-rest-2.rest.now
-    (bare_expr c.in_ok-trap.trap.tree) c.in_ok-trap.trap.extent c.in_err-after.field-0.0 c.in_ok-rest.ensures.ok
-    c.in_ok-trap.ensures.ok c.in_ok-rest-2.ensures.ok c.in_err-after.ensures.err)
+    c.in-Ok.found.0 c.args.tokens.now c.in_ok-rest.rest.now c.in_ok-trap.rest.now c.in-Ok.found.1.now
+    (bare_expr c.in_ok-trap.trap.tree) c.in_ok-trap.trap.extent c.in-Err-group.answer c.in_ok-rest.ensures.ok
+    c.in_ok-trap.ensures.ok c.in-Ok.ensures.ok c.in-Err-group.ensures.err)
 
-pub trap_and_after-returns-clause-ok : goal.trap_and_after-returns-clause-ok
-trap_and_after-returns-clause-ok t c =
-    trap_read c.args.two c.args.bytes.now c.args.end c.args.depth c.in_ok-rest.field-0-0 c.in_ok-rest-2.field-0-0
-    c.args.tokens.now c.in_ok-rest.rest.now c.in_ok-trap.rest.now c.in_ok-rest-2.rest.now c.in_ok-after.rest.now
-    (bare_expr c.in_ok-trap.trap.tree) (bare_expr c.in_ok-after.after.tree) c.in_ok-trap.trap.extent
-    c.in_ok-after.after.extent c.in_ok-rest.ensures.ok c.in_ok-trap.ensures.ok c.in_ok-rest-2.ensures.ok
-    c.in_ok-after.ensures.ok
+pub trap_and_after-returns-in-Ok-group-clause-ok : goal.trap_and_after-returns-in-Ok-group-clause-ok
+trap_and_after-returns-in-Ok-group-clause-ok t c =
+    trap_read c.args.two c.args.bytes.now c.args.end c.args.depth c.in_ok-rest.field-0-0 c.in-Ok.found.0
+    c.args.tokens.now c.in_ok-rest.rest.now c.in_ok-trap.rest.now c.in-Ok.found.1.now c.in-Ok-group.rest.now
+    (bare_expr c.in_ok-trap.trap.tree) (bare_expr c.in-Ok-group.after.tree) c.in_ok-trap.trap.extent
+    c.in-Ok-group.after.extent c.in_ok-rest.ensures.ok c.in_ok-trap.ensures.ok c.in-Ok.ensures.ok
+    c.in-Ok-group.ensures.ok
 
 pub scope-returns-in_err-body-clause-err : goal.scope-returns-in_err-body-clause-err
 scope-returns-in_err-body-clause-err t c =
@@ -171,17 +166,16 @@ scope-returns-in_err-body-clause-err t c =
     (scope_body_stops c.args.two c.args.end c.args.depth c.args.at c.args.rest.now c.in_err-body.field-0.0
     c.in_err-body.ensures.err)
 
-pub scope-returns-in_err-trap-clause-err : goal.scope-returns-in_err-trap-clause-err
-scope-returns-in_err-trap-clause-err t c =
-    let p = err_from_is_err_and c.from_residual-in_err-trap.result c.from_residual-in_err-trap.ensures.1 in
-    rw (p.1, p.2)
+pub scope-returns-in-Err-clause-err : goal.scope-returns-in-Err-clause-err
+scope-returns-in-Err-clause-err t c =
+    rw (c.let_go.ensures)
     (scope_stops c.args.two c.args.bytes.now c.args.end c.args.depth c.args.at c.args.rest.now c.in_ok-body.rest.now
-    (bare_expr c.in_ok-body.body.tree) c.in_ok-body.body.extent c.in_err-trap.field-0.0 c.in_ok-body.ensures.ok
-    c.in_err-trap.ensures.err)
+    (bare_expr c.in_ok-body.body.tree) c.in_ok-body.body.extent c.in-Err.answer c.in_ok-body.ensures.ok
+    c.in-Err.ensures.err)
 
-pub scope-returns-clause-ok : goal.scope-returns-clause-ok
-scope-returns-clause-ok t c =
+pub scope-returns-in_ok-scoped-in-Ok-clause-ok : goal.scope-returns-in_ok-scoped-in-Ok-clause-ok
+scope-returns-in_ok-scoped-in-Ok-clause-ok t c =
     scope_read c.args.two c.args.bytes.now c.args.end c.args.depth c.args.at _ c.args.rest.now c.in_ok-body.rest.now
-    c.in_ok-trap.rest.now (bare_expr c.in_ok-body.body.tree) (bare_expr c.in_ok-trap.trap.tree)
-    (bare_expr c.in_ok-trap.after.tree) _ c.in_ok-body.body.extent c.in_ok-trap.after.extent
-    c.in_ok-body.ensures.ok c.in_ok-trap.ensures.ok c.in_ok-scoped.ensures.value
+    c.in-Ok.rest.now (bare_expr c.in_ok-body.body.tree) (bare_expr c.in-Ok.trap.tree)
+    (bare_expr c.in-Ok.after.tree) _ c.in_ok-body.body.extent c.in-Ok.after.extent
+    c.in_ok-body.ensures.ok c.in-Ok.ensures.ok c.in_ok-scoped-in-Ok.ensures.value

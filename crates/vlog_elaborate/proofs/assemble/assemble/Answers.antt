@@ -8,7 +8,8 @@ use Rattle.vlog_elaborate.proofs.TextGates.{all_named}
 use Rattle.vlog_elaborate.specs.inner.Parts.{ArePlaces}
 use Rattle.vlog_elaborate.proofs.Circuit.{unbroken_circuit}
 use Rattle.vlog_elaborate.proofs.Placed.{order_few, in_order, are_places}
-use Rattle.vlog_elaborate.proofs.Parts.{ports_once, few_inputs, gate_count, names_are, drivers_are, moved_are, circuit_is}
+use Rattle.vlog_elaborate.proofs.Parts.{ports_once, few_inputs, gate_count, names_are, drivers_are, moved_are}
+use Rattle.vlog_elaborate.proofs.Parts.{circuit_is}
 use Rattle.vlog_elaborate.proofs.assemble.assemble.Goals as goal
 
 pub places-requires-clause-there : goal.places-requires-clause-there

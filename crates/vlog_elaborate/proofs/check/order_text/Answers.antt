@@ -17,7 +17,8 @@ order_gates-requires c =
 
 pub returns-clause-order : goal.returns-clause-order
 returns-clause-order c =
-    order_is c.args.raw.now c.args.gates.now c.in_ok-order_gates.field-0.items c.requires.gates c.in_ok-order_gates.ensures
+    order_is c.args.raw.now c.args.gates.now c.in_ok-order_gates.field-0.items c.requires.gates
+    c.in_ok-order_gates.ensures
 
 pub returns-clause-there : goal.returns-clause-there
 returns-clause-there c = order_below c.args.gates.now c.in_ok-order_gates.field-0.items c.in_ok-order_gates.ensures
